@@ -4,4 +4,5 @@
 // script is written, what each question asks, how many steps a script takes, and how its names stand.
 pub mod fault;
 pub mod row;
+pub mod standing;
 pub mod token;
