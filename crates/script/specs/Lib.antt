@@ -4,3 +4,6 @@ pub mod Syntax
 pub mod Written
 pub mod Steps
 pub mod Stand
+pub mod Roles
+pub mod Names
+pub mod Nesting

@@ -1,0 +1,4 @@
+pub mod Listing
+pub mod Loops
+pub mod Mapped
+pub mod Caps

@@ -1,0 +1,25 @@
+// The table of declared names, and looking a name up in it.
+ghost use mathlib.Core.Path.{_≡_};
+ghost use mathlib.Core.List.{[], _∷_, _++_};
+ghost use Prim.Native.Nat.{_≤_, min};
+ghost use lib.ListN.{length, take, drop};
+ghost use Rattle.std.specs.shelf.Text.{sameBytes};
+use script::row::Role;
+use script::row::Row;
+
+// Which declared names are wanted.
+#[derive(Clone, Copy)]
+pub(crate) enum Kind {
+    Cells,
+    Locals,
+    Both,
+}
+
+// Declared names in a row: at most 64 cells and 64 locals, as question 7 has it.
+#[derive(Drop)]
+pub(crate) struct Names {
+    pub rows: [Row; 128],
+    pub len: usize,
+    ghost short: { len ≤ 128 },
+    ghost long: { length rows ≡ 128 },
+}
