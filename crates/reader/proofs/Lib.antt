@@ -4,3 +4,5 @@ pub mod Mapped
 pub mod Caps
 pub mod Nests
 pub mod Counts
+pub mod Renumber
+pub mod Declared

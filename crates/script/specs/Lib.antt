@@ -7,3 +7,6 @@ pub mod Stand
 pub mod Roles
 pub mod Names
 pub mod Nesting
+pub mod Sizes
+pub mod Decode
+pub mod Questions

@@ -1,5 +1,5 @@
 -- What questions 7 to 11 ask of the rows of a script, and how its names are numbered. Assumes nothing.
-use mathlib.Core.Bool.{Bool, cond, not, _&&_, _||_}
+use mathlib.Core.Bool.{Bool, true, cond, not, _&&_, _||_}
 use mathlib.Core.List.{List, [], _∷_, _++_, map}
 use Prim.Native.Nat.{ℕ, suc, _+_}
 use lib.Dec.{leb, ltb}
@@ -79,3 +79,8 @@ number-all text rs = map (numbered text (names rs)) rs
 -- the row before any
 abbrev pub no-row : Row
 no-row = record { role = role.MainWord; place = 0; len = 0; value = 0 }
+
+-- each declared name has a number below 128
+abbrev pub all-numbered : List Row → Bool
+all-numbered [] = true
+all-numbered (r ∷ rs) = cond (declares (r .role)) (ltb (r .value) 128 && all-numbered rs) (all-numbered rs)
