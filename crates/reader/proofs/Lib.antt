@@ -6,3 +6,4 @@ pub mod Nests
 pub mod Counts
 pub mod Renumber
 pub mod Declared
+pub mod Asked

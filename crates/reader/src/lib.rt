@@ -3,4 +3,5 @@
 // how many cells, locals, steps and readings it has. The first question that says no gives the fault.
 pub mod count;
 pub mod names;
+pub mod stages;
 pub mod tally;

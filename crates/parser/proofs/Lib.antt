@@ -1,0 +1,11 @@
+pub mod Symbols
+pub mod Depth
+pub mod Table
+pub mod Steps
+pub mod Complete
+pub mod Decoded
+pub mod Left
+pub mod Sound
+pub mod Kept
+pub mod Viable
+pub mod Reading
