@@ -62,7 +62,7 @@ module _ (i b : ℕ) (bs : List ℕ) where
 
 module _ (s : List ℕ) (i end : ℕ) (lt : i < length s) (within : end ≤ length s) where
   pub number-at : end ≡ i + 1 + leading digit (drop (i + 1) s) → digit (getD s i 0) ≡ true
-    → Some (tok sym.Number i (length (Part s i (end - i))) (value-of (Part s i (end - i)))) ≡ token-of i (getD s i 0) (drop (i + 1) s)
+      → Some (tok sym.Number i (length (Part s i (end - i))) (value-of (Part s i (end - i)))) ≡ token-of i (getD s i 0) (drop (i + 1) s)
   number-at e d =
       let b : ℕ = getD s i 0 in
       let bs : List ℕ = drop (i + 1) s in
@@ -74,7 +74,7 @@ module _ (s : List ℕ) (i end : ℕ) (lt : i < length s) (within : end ≤ leng
       ∙ sym (token-digit i b bs d)
 
   pub word-at : end ≡ i + 1 + leading part (drop (i + 1) s) → digit (getD s i 0) ≡ false → part (getD s i 0) ≡ true
-    → Some (tok (word (Part s i (end - i))) i (length (Part s i (end - i))) 0) ≡ token-of i (getD s i 0) (drop (i + 1) s)
+      → Some (tok (word (Part s i (end - i))) i (length (Part s i (end - i))) 0) ≡ token-of i (getD s i 0) (drop (i + 1) s)
   word-at e d l =
       let b : ℕ = getD s i 0 in
       let bs : List ℕ = drop (i + 1) s in

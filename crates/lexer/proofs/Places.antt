@@ -51,7 +51,7 @@ mark-fits : (p b : ℕ) (bs : List ℕ) (o : Option Sym) → Fits p (length bs) 
 mark-fits p b bs None = tt
 mark-fits p b bs (Some s) =
     cond-both (eqb b 61 && eqb (getD bs 0 0) 61) (tok sym.Same p 2 0) (tok s p 1 0) (λ t. Fits p (length bs) (Some t))
-    (λ e. let h : 1 ≤ length bs = some-byte bs (eqb-true _ _ (and-parts _ _ e .1)) in (refl, omega arith, omega arith))
+    (λ e. let h : 1 ≤ length bs = some-byte bs (eqb-true (getD bs 0 0) 61 (and-parts (eqb b 61) (eqb (getD bs 0 0) 61) e .1)) in (refl, omega arith, omega arith))
     (λ _. (refl, omega arith, omega arith))
 
 token-fits : (p b : ℕ) (bs : List ℕ) → Fits p (length bs) (token-of p b bs)
@@ -83,8 +83,8 @@ lex-chained zero p (b ∷ bs) h =
     let begun : Result (List Tok) Fault = begin p (token-of p b bs) next in
     moved p (p + 0) hi (p + suc (length bs)) (cond (blank b) (next 0) begun) (omega arith) (omega arith)
     (cond-both (blank b) (next 0) begun (Chained p hi)
-      (λ _. lower (p + 1 + 0) p hi (next 0) (omega arith) (lex-chained 0 (p + 1) bs (omega arith)))
-      (λ _. begin-chained p (length bs) hi (token-of p b bs) next (token-fits p b bs) (λ k g. lex-chained k (p + 1) bs g)))
+    (λ _. lower (p + 1 + 0) p hi (next 0) (omega arith) (lex-chained 0 (p + 1) bs (omega arith)))
+    (λ _. begin-chained p (length bs) hi (token-of p b bs) next (token-fits p b bs) (λ k g. lex-chained k (p + 1) bs g)))
 lex-chained (suc k) p (b ∷ bs) h =
     moved (p + 1 + k) (p + suc k) (p + 1 + length bs) (p + suc (length bs)) (lex k (p + 1) bs) (omega arith) (omega arith) (lex-chained k (p + 1) bs (omega arith))
 

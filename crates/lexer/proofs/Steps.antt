@@ -64,8 +64,10 @@ lex-blanks p (b ∷ bs) = by (blank b) refl (lex-blanks (p + 1) bs)
   where
     k : ℕ
     k = leading blank bs
+
     to : Bool → ℕ
     to v = cond v (1 + k) 0
+
     by : (v : Bool) → blank b ≡ v → lex 0 (p + 1) bs ≡ lex 0 (p + 1 + k) (drop k bs) → lex 0 p (b ∷ bs) ≡ lex 0 (p + to v) (drop (to v) (b ∷ bs))
     by true e more =
         let s : drop k bs ≡ drop (1 + k) (b ∷ bs) = ap (λ n. drop n (b ∷ bs)) (sym (one-add k)) in

@@ -3,5 +3,5 @@
 // `script` defines them, into a table; and the questions on sizes are asked of the text and of that
 // table. Everything refuses by a `Fault` that has the number of the question and the place in the text.
 pub mod scan;
-pub mod table;
 pub mod sizes;
+pub mod table;

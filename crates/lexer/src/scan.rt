@@ -10,6 +10,7 @@ ghost use Rattle.lexer.specs.Plain.{in-class, bytes, plain-if, Lies, Found, Re
 use script::fault::Fault;
 use script::token::Sym;
 
+// The bytes that run together: blanks, the digits of a number, and the bytes that a name goes on with.
 #[derive(Clone, Copy)]
 pub enum Class {
     Blank,
@@ -17,6 +18,7 @@ pub enum Class {
     Part,
 }
 
+// A token keeps the bytes of the text itself, so that its name or its digits are never copied.
 #[derive(Clone, Copy)]
 pub enum Token<'a> {
     Word(&'a [u8]),
@@ -24,6 +26,7 @@ pub enum Token<'a> {
     Mark(&'a [u8]),
 }
 
+// All before `at` is read.
 #[derive(Drop)]
 pub struct Lexer<'a> {
     text: &'a [u8],
@@ -148,6 +151,7 @@ fn token_from<'a>(text: &'a [u8], at: usize) -> Result<Option<(Token<'a>, usize)
 }
 
 impl<'a> Lexer<'a> {
+    // Begins at the text's first byte.
     pub fn new(text: &'a [u8]) -> Lexer<'a>
         ensures text { λ r. ⌜ now (r .text) ≡ now (text .entry) ⌝ }
         ensures start { λ r. ⌜ r .at ≡ 0 ⌝ }

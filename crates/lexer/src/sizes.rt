@@ -9,8 +9,11 @@ use script::token::Sym;
 use script::token::Tok;
 
 const MAX_BYTES: usize = 8192;
+
 const MAX_NAME: usize = 24;
+
 const MAX_NUMBER: u32 = 2147483647;
+
 const MAX_TOKENS: usize = 2048;
 
 // What the question of a number answers: nothing to refuse, or the fault at the place that it refuses.
@@ -34,6 +37,7 @@ pub fn size(text: &[u8]) -> Result<(), Fault>
     }
 }
 
+// A number past the limit has a value past it too, since its token keeps one more than the limit.
 fn is_too_long(t: Tok) -> bool
     ensures { λ r. ⌜ r ≡ too-long t ⌝ }
 {
@@ -44,6 +48,7 @@ fn is_too_long(t: Tok) -> bool
     }
 }
 
+// The place of the first token that question 3 refuses.
 fn first_too_long(toks: &[Tok]) -> Option<usize>
     ensures { λ r. ⌜ r ≡ first-where too-long (now (toks .entry)) ⌝ }
 {
@@ -67,7 +72,11 @@ pub fn lengths(toks: &[Tok]) -> Result<(), Fault>
 fn place_past(toks: &[Tok], n: usize) -> Option<usize>
     ensures { λ r. ⌜ r ≡ first-place (drop n (now (toks .entry))) ⌝ }
 {
-    if n < toks.len() { Some(toks[n].place) } else { None }
+    if n < toks.len() {
+        Some(toks[n].place)
+    } else {
+        None
+    }
 }
 
 // Question 4: at most `MAX_TOKENS` tokens.
@@ -84,14 +93,29 @@ mod tests {
 
     #[test]
     fn the_longest_name_is_taken() -> Result<(), Fail> {
-        let name = Tok { sym: Sym::Name, place: 3, len: 24, value: 0 };
+        let name = Tok {
+            sym: Sym::Name,
+            place: 3,
+            len: 24,
+            value: 0,
+        };
         check(lengths(&[name, name]).is_ok())
     }
 
     #[test]
     fn the_first_too_long_is_refused() -> Result<(), Fail> {
-        let name = Tok { sym: Sym::Name, place: 3, len: 24, value: 0 };
-        let number = Tok { sym: Sym::Number, place: 40, len: 10, value: 2147483648 };
+        let name = Tok {
+            sym: Sym::Name,
+            place: 3,
+            len: 24,
+            value: 0,
+        };
+        let number = Tok {
+            sym: Sym::Number,
+            place: 40,
+            len: 10,
+            value: 2147483648,
+        };
         match lengths(&[name, number]) {
             Ok(_) => Err(Fail::new("taken")),
             Err(f) => check(f.number == 3 && f.place == 40),

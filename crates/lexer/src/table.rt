@@ -9,9 +9,9 @@ ghost use Rattle.std.specs.shelf.Text.{sameBytes};
 ghost use Rattle.script.specs.Tokens.{tokens, value-of, word};
 ghost use Rattle.lexer.specs.Places.{Inside, Rising, Full};
 ghost use Rattle.lexer.specs.Plain.{plain, sym-of-mark};
-use crate::scan::mark_sym;
 use crate::scan::Lexer;
 use crate::scan::Token;
+use crate::scan::mark_sym;
 use script::fault::Fault;
 use script::token::Sym;
 use script::token::Tok;
@@ -19,6 +19,7 @@ use script::token::Tok;
 // One more than the greatest number that a script may have: what a token says of any greater one.
 const TOO_LARGE: u64 = 2147483648;
 
+// A function of its own, so that each word asks the same short question.
 fn is_word(text: &[u8], fixed: &[u8]) -> bool
     ensures { λ r. ⌜ r ≡ sameBytes (now (text .entry)) (now (fixed .entry)) ⌝ }
 {
@@ -81,13 +82,29 @@ fn value(digits: &[u8]) -> u32
     n as u32
 }
 
+// The plain record of a token that begins at `place`.
 fn record(token: Token<'_>, place: usize) -> Tok
     ensures { λ r. ⌜ r ≡ plain (token .entry) place ⌝ }
 {
     match token {
-        Token::Word(text) => Tok { sym: word_sym(text), place, len: text.len(), value: 0 },
-        Token::Number(text) => Tok { sym: Sym::Number, place, len: text.len(), value: value(text) },
-        Token::Mark(text) => Tok { sym: sym_of_mark(text), place, len: text.len(), value: 0 },
+        Token::Word(text) => Tok {
+            sym: word_sym(text),
+            place,
+            len: text.len(),
+            value: 0,
+        },
+        Token::Number(text) => Tok {
+            sym: Sym::Number,
+            place,
+            len: text.len(),
+            value: value(text),
+        },
+        Token::Mark(text) => Tok {
+            sym: sym_of_mark(text),
+            place,
+            len: text.len(),
+            value: 0,
+        },
     }
 }
 
@@ -117,7 +134,12 @@ mod tests {
     use super::*;
     use std::test::*;
 
-    const NONE: Tok = Tok { sym: Sym::Name, place: 0, len: 0, value: 0 };
+    const NONE: Tok = Tok {
+        sym: Sym::Name,
+        place: 0,
+        len: 0,
+        value: 0,
+    };
 
     #[test]
     fn reads_words_numbers_and_marks() -> Result<(), Fail> {

@@ -7,3 +7,4 @@ pub mod Counts
 pub mod Renumber
 pub mod Declared
 pub mod Asked
+pub mod Built

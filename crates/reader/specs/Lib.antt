@@ -1,3 +1,4 @@
 pub mod Wanted
 pub mod Count
 pub mod Stages
+pub mod Holding

@@ -29,7 +29,7 @@ use script::token::Tok;
 // Questions 1 to 4: the tokens of the text. A table of 8192 is long enough for them.
 pub(crate) fn scan(text: &[u8], out: &mut [Tok]) -> Result<usize, Fault>
     requires { ⌜ length (now out) ≡ 8192 ⌝ }
-    ensures { λ r. ⌜ Cases r (λ n. Scanned (now (text .entry)) (take n (now (out .exit)))) (λ f. First-no (now (text .entry)) f) ⌝ }
+    ensures { λ r. ⌜ Cases r (λ n. Scanned (now (text .entry)) (take n (now (out .exit))) × (n ≤ 2048)) (λ f. First-no (now (text .entry)) f) ⌝ }
 {
     sizes::size(text)?;
     let n = read_tokens(text, out)?;

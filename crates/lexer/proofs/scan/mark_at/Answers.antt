@@ -15,7 +15,7 @@ returns-then-is-same c =
     let long = cut-length s i (i + 2 - i) (omega arith) in
     record {
       value = same-at s i (i + 2 - i) two within (same-next s i (sym (c .if-is-same .ensures tt)));
-      lies = omega arith
+      lies = omega arith;
     }
 
 pub returns-in-Some : need.returns-in-Some
@@ -26,5 +26,5 @@ returns-in-Some c =
     let long = cut-length s i (i + 1 - i) (omega arith) in
     record {
       value = one-at s i (i + 1 - i) _ one (c .pre) (not-same s i (sym (c .if-is-same .ensures tt))) (c .in-Some .ensures tt);
-      lies = omega arith
+      lies = omega arith;
     }

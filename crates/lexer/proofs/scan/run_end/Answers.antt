@@ -13,7 +13,7 @@ returns-else-is-in c =
     record {
       value = omega (arith, leading-drop-no (in-class (c .args .class)) (c .args .text .now) (c .loop-i .i) 0 (omega arith) (sym (c .if-is-in .ensures tt)));
       within = omega arith;
-      stops = λ _. sym (c .if-is-in .ensures tt)
+      stops = λ _. sym (c .if-is-in .ensures tt);
     }
 
 pub returns-after-loop-i : need.returns-after-loop-i
@@ -21,5 +21,5 @@ returns-after-loop-i c =
     record {
       value = omega (arith, leading-drop-all (in-class (c .args .class)) (c .args .text .now) (c .loop-i .i) (omega arith));
       within = omega arith;
-      stops = λ h. absurd (omega arith)
+      stops = λ h. absurd (omega arith);
     }

@@ -16,7 +16,7 @@ returns-then-is-in c =
     let long = cut-length s i (end - i) (omega arith) in
     record {
       value = number-at s i end (c .pre) within is (sym (c .if-is-in .ensures tt));
-      lies = omega arith
+      lies = omega arith;
     }
 
 pub returns-then-is-in-2 : need.returns-then-is-in-2
@@ -29,7 +29,7 @@ returns-then-is-in-2 c =
     let long = cut-length s i (end - i) (omega arith) in
     record {
       value = word-at s i end (c .pre) within is (sym (c .if-is-in .ensures tt)) (sym (c .if-is-in-2 .ensures tt));
-      lies = omega arith
+      lies = omega arith;
     }
 
 pub returns-else-is-in-2 : need.returns-else-is-in-2
@@ -38,5 +38,5 @@ returns-else-is-in-2 c =
     let i = c .args .start in
     record {
       value = c .mark-at .ensures .value ∙ mark-at s i (sym (c .if-is-in .ensures tt)) (sym (c .if-is-in-2 .ensures tt));
-      lies = c .mark-at .ensures .lies
+      lies = c .mark-at .ensures .lies;
     }

@@ -47,7 +47,7 @@ returns-then-n-out c =
       full = inr (sofar-full s (c .loop-t .lexer .text .now) (c .loop-t .out) (c .loop-t .n) at (c .loop-t .inv) (plain t place) to (told .0) _ (c .if-n-out .taken) is);
       count = tt;
       inside = tt;
-      rising = tt
+      rising = tt;
     }
 
 pub returns-in-Break-t : need.returns-in-Break-t
@@ -72,5 +72,5 @@ returns c =
       full = tt;
       count = omega (arith, c .loop-t .lexer .ok);
       inside = tokens-inside s _ all;
-      rising = tokens-rising s _ all
+      rising = tokens-rising s _ all;
     }

@@ -16,10 +16,10 @@ loop-d-again c =
     let m = n * 10 + c .from .result in
     let more = drop (i + 1) ds in
     let on : min (decimal m more) 2147483648 ≡ value-of ds =
-        ap (λ k. min (decimal (n * 10 + k) more) 2147483648) d ∙ sym (digit-more n i ds (c .loop-d-test .taken)) ∙ c .loop-d .inv .1 in
+    ap (λ k. min (decimal (n * 10 + k) more) 2147483648) d ∙ sym (digit-more n i ds (c .loop-d-test .taken)) ∙ c .loop-d .inv .1 in
     elim (c .if-n-gt-TOO-LARGE .came) [
-      then-n-gt-TOO-LARGE w ↦ (omega (arith, w .n-is), ap (λ k. min (decimal k more) 2147483648) (w .n-is) ∙ capped m more (w .if-n-gt-TOO-LARGE .taken) ∙ on)
-    | else-n-gt-TOO-LARGE w ↦ (omega (arith, w .n-is), ap (λ k. min (decimal k more) 2147483648) (w .n-is) ∙ on)
+      | then-n-gt-TOO-LARGE w ↦ (omega (arith, w .n-is), ap (λ k. min (decimal k more) 2147483648) (w .n-is) ∙ capped m more (w .if-n-gt-TOO-LARGE .taken) ∙ on)
+      | else-n-gt-TOO-LARGE w ↦ (omega (arith, w .n-is), ap (λ k. min (decimal k more) 2147483648) (w .n-is) ∙ on)
     ]
 
 pub returns : need.returns

@@ -34,6 +34,8 @@ returns-in-Break-count c =
 
 pub returns : need.returns
 returns c =
-    scanned (c .args .text .now) (c .in-Continue-size .ensures tt) (take (c .in-Continue-n .n) (c .read-tokens .last .out)) (c .in-Continue-n .ensures tt .table)
-    (whole-part (λ k. Ok tt ≡ answer 3 (first-where too-long (take k (c .read-tokens .last .out)))) (c .in-Continue-n .n) (c .in-Continue-lengths .ensures tt))
-    (whole-part (λ k. Ok tt ≡ answer 4 (past-tokens (take k (c .read-tokens .last .out)))) (c .in-Continue-n .n) (c .in-Continue-count .ensures tt))
+    let so = scanned (c .args .text .now) (c .in-Continue-size .ensures tt) (take (c .in-Continue-n .n) (c .read-tokens .last .out)) (c .in-Continue-n .ensures tt .table)
+        (whole-part (λ k. Ok tt ≡ answer 3 (first-where too-long (take k (c .read-tokens .last .out)))) (c .in-Continue-n .n) (c .in-Continue-lengths .ensures tt))
+        (whole-part (λ k. Ok tt ≡ answer 4 (past-tokens (take k (c .read-tokens .last .out)))) (c .in-Continue-n .n) (c .in-Continue-count .ensures tt)) in
+    let w = c .in-Continue-n .ensures tt .count in
+    (so, omega (arith, so .few, length-take (c .in-Continue-n .n) (c .read-tokens .last .out), w .1, c .read-tokens .kept .out, c .pre))
