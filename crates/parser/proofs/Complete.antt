@@ -1,14 +1,11 @@
 -- Each script is read, to its rows. Assumes nothing.
-use mathlib.Core.Path.{_≡_, refl, sym as sym′, ap, _∙_}
-use mathlib.Core.Bool.{Bool, true, false, cond}
+use mathlib.Core.Path.{_≡_, refl, ap, _∙_}
+use mathlib.Core.Bool.{Bool, true, false}
 use mathlib.Core.List.{List, [], _∷_, map}
 use Prim.Native.Nat.{ℕ}
-use Rattle.std.specs.declared.result.Result.{Result}
-use Rattle.std.specs.declared.result.Result.the-variants.{Ok, Err}
-use Rattle.script.specs.declared.fault.Fault.{Fault}
+use Rattle.std.specs.declared.result.Result.the-variants.{Ok}
 use Rattle.script.specs.declared.row.Role.the-variants as role
 use Rattle.script.specs.declared.row.Row.{Row}
-use Rattle.script.specs.declared.token.Tok.{Tok}
 use Rattle.script.specs.Syntax.{Leaf, Expr, alone, less, same, Sum, sum, Terms, no-term, plus, minus, Term, term, Factors, no-factor, times, over, Factor, number, negative, name, paren, Names, no-name, comma, Block, done, assign, reading, when, either, loop, atomic, together, Decls, no-decl, cell, minus-cell, var, fresh, Script}
 use Rattle.script.specs.Written.{row, token, text-expr, text-sum, text-terms, text-term, text-factors, text-factor, text-names, text, text-decls, rows}
 use Rattle.parser.specs.declared.machine.Ends.{Ends}
@@ -17,7 +14,7 @@ use Rattle.parser.specs.declared.machine.Want.{Want}
 use Rattle.parser.specs.declared.machine.Want.the-variants as want
 use Rattle.parser.specs.declared.machine.Frame.{Frame}
 use Rattle.parser.specs.declared.machine.Frame.the-variants as frame
-use Rattle.parser.specs.Machine.{State, at, run, put, start, otherwise, closing}
+use Rattle.parser.specs.Machine.{at, run, put, start, otherwise, closing}
 
 -- the rows are what their tokens are read to
 abbrev Self : ℕ → Want → List Frame → List Row → Type 0
@@ -86,7 +83,7 @@ module _ (end : ℕ) where
   when-shut : (c : Leaf) (fs : List Frame) (rs : List Row) → Ready end fs rs → Ready end (frame.Then ∷ fs) (row role.WhenClose c ∷ rs)
   when-shut c fs rs h =
       let e : put (row (closing frame.Then (otherwise (map token rs))) c) (run end (map token rs) (at want.Over fs)) ≡ Ok (row role.WhenClose c ∷ rs) =
-        ap (λ b. put (row (closing frame.Then b) c) (run end (map token rs) (at want.Over fs))) (h .no-else) ∙ ap (put (row role.WhenClose c)) (h .over)
+      ap (λ b. put (row (closing frame.Then b) c) (run end (map token rs) (at want.Over fs))) (h .no-else) ∙ ap (put (row role.WhenClose c)) (h .over)
       in
       record { self = e; over = e; no-else = refl }
 

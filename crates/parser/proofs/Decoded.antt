@@ -1,12 +1,12 @@
 -- A script is read back from its rows. Assumes nothing.
-use mathlib.Core.Path.{_≡_, refl, sym, ap, _∙_}
+use mathlib.Core.Path.{_≡_, refl, ap, _∙_}
 use mathlib.Core.List.{List, [], _∷_}
-use Rattle.std.specs.declared.option.Option.the-variants.{Some, None}
+use Rattle.std.specs.declared.option.Option.the-variants.{None}
 use Rattle.script.specs.declared.row.Role.the-variants as role
 use Rattle.script.specs.declared.row.Row.{Row}
 use Rattle.script.specs.Syntax.{Leaf, Expr, alone, less, same, Sum, sum, Terms, no-term, plus, minus, Term, term, Factors, no-factor, times, over, Factor, number, negative, name, paren, Names, no-name, comma, Block, done, assign, reading, when, either, loop, atomic, together, Decls, no-decl, cell, minus-cell, var, fresh, Script}
 use Rattle.script.specs.Written.{row, text-expr, text-sum, text-terms, text-term, text-factors, text-factor, text-names, text, text-decls, rows}
-use Rattle.script.specs.Decode.{blank, Half, no-half, less-half, same-half, Level, level, with-factor, with-factors, with-terms, with-half, expr-of, Follows, no-else, with-else, Entry, entry, Source, by-expr, by-input, Build, with-levels, add, built, decode}
+use Rattle.script.specs.Decode.{blank, Half, no-half, less-half, same-half, Level, level, with-factor, expr-of, Follows, no-else, with-else, Entry, entry, by-expr, Build, with-levels, add, built, decode}
 
 -- ---- expressions: the level once the rows in front of it are read
 

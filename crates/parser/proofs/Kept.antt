@@ -1,5 +1,5 @@
 -- Each row has its token. Assumes nothing.
-use mathlib.Core.Path.{_≡_, refl, sym as sym′, ap, ap₂, _∙_}
+use mathlib.Core.Path.{_≡_, sym as sym′, ap, ap₂, _∙_}
 use mathlib.Core.Bool.{Bool, true, false, cond}
 use mathlib.Core.List.{List, [], _∷_, map}
 use Prim.Native.Nat.{ℕ}
@@ -8,18 +8,16 @@ use Rattle.script.specs.declared.fault.Fault.{Fault}
 use Rattle.script.specs.declared.row.Role.{Role}
 use Rattle.script.specs.declared.row.Role.the-variants as role
 use Rattle.script.specs.declared.row.Row.{Row}
-use Rattle.script.specs.declared.token.Sym.{Sym}
 use Rattle.script.specs.declared.token.Sym.the-variants as sym
 use Rattle.script.specs.declared.token.Tok.{Tok}
 use Rattle.script.specs.Written.{sym-of, token}
-use Rattle.parser.specs.declared.machine.Want.{Want}
 use Rattle.parser.specs.declared.machine.Frame.{Frame}
 use Rattle.parser.specs.declared.machine.Frame.the-variants as frame
 use Rattle.parser.specs.declared.machine.Mark.the-variants as mark
 use Rattle.parser.specs.declared.machine.Move.{Move}
 use Rattle.parser.specs.declared.machine.Move.the-variants.{Stay, Push, Pop, Refuse}
 use Rattle.parser.specs.declared.machine.Want.the-variants as want
-use Rattle.parser.specs.Machine.{State, at, run, turn, put, marked, closing, otherwise, rule, isEnd}
+use Rattle.parser.specs.Machine.{State, at, run, turn, put, marked, otherwise, rule, isEnd}
 use Rattle.parser.proofs.Sound.{Res, err-ok, ok-ok, put-ok}
 use Rattle.parser.proofs.Table.{Fits, fits}
 

@@ -1,13 +1,13 @@
 -- What is left of a script in each state of the reader. Assumes nothing.
-use mathlib.Core.Path.{_≡_, refl, ap, _∙_}
+use mathlib.Core.Path.{_≡_, ap, _∙_}
 use mathlib.Core.Bool.{Bool, true, false}
 use mathlib.Core.List.{List, [], _∷_}
 use mathlib.Core.Logic.{_⊎_, inl, inr}
 use Rattle.script.specs.declared.row.Role.{Role}
 use Rattle.script.specs.declared.row.Role.the-variants as role
 use Rattle.script.specs.declared.row.Row.{Row}
-use Rattle.script.specs.Syntax.{Leaf, Expr, alone, less, same, Sum, sum, Terms, no-term, plus, minus, Term, term, Factors, no-factor, times, over, Factor, number, negative, name, paren, Names, no-name, comma, Block, done, assign, reading, when, either, loop, atomic, together, Decls, no-decl, cell, minus-cell, var, fresh, Script}
-use Rattle.script.specs.Written.{row, text-expr, text-sum, text-terms, text-term, text-factors, text-factor, text-names, text, text-decls}
+use Rattle.script.specs.Syntax.{Leaf, Expr, alone, less, same, Sum, sum, Terms, term, Factors, Factor, Names, Block, Decls}
+use Rattle.script.specs.Written.{row, text-expr, text-sum, text-terms, text-factors, text-factor, text-names, text, text-decls}
 use Rattle.parser.specs.declared.machine.Ends.{Ends}
 use Rattle.parser.specs.declared.machine.Ends.the-variants as ends
 use Rattle.parser.specs.declared.machine.Want.{Want}

@@ -11,11 +11,10 @@ use Rattle.script.specs.declared.fault.Fault.{Fault}
 use Rattle.script.specs.declared.row.Role.{Role}
 use Rattle.script.specs.declared.row.Role.the-variants as role
 use Rattle.script.specs.declared.row.Row.{Row}
-use Rattle.script.specs.declared.token.Sym.{Sym}
 use Rattle.script.specs.declared.token.Sym.the-variants as sym
 use Rattle.script.specs.declared.token.Tok.{Tok}
-use Rattle.script.specs.Syntax.{Leaf, Expr, alone, less, same, Sum, sum, Terms, no-term, plus, minus, Term, term, Factors, no-factor, times, over, Factor, number, negative, name, paren, Names, no-name, comma, Block, done, assign, reading, when, either, loop, atomic, together, Decls, no-decl, cell, minus-cell, var, fresh, Script}
-use Rattle.script.specs.Written.{row, text-expr, text-sum, text-terms, text-term, text-factors, text-factor, text-names, text, text-decls, rows}
+use Rattle.script.specs.Syntax.{Leaf, Expr, no-term, plus, minus, term, no-factor, times, over, number, negative, name, paren, no-name, comma, Block, done, assign, reading, when, either, loop, atomic, together, no-decl, cell, minus-cell, var, fresh, Script}
+use Rattle.script.specs.Written.{row, text-expr, text-factor, text-names, text, text-decls, rows}
 use Rattle.parser.specs.declared.machine.Ends.{Ends}
 use Rattle.parser.specs.declared.machine.Ends.the-variants as ends
 use Rattle.parser.specs.declared.machine.Want.{Want}
@@ -26,8 +25,8 @@ use Rattle.parser.specs.declared.machine.Mark.the-variants as mark
 use Rattle.parser.specs.declared.machine.Move.{Move}
 use Rattle.parser.specs.declared.machine.Move.the-variants.{Stay, Push, Pop, Refuse}
 use Rattle.parser.specs.Machine as machine
-use Rattle.parser.specs.Machine.{State, at, run, turn, put, marked, otherwise, start, is, on}
-use Rattle.parser.proofs.Left.{Rest, One, In, Shuts, Factored, Summed, Expressed, Sums, Compared, Tailed, Set, Tested, Leaves, Fin, Tail, leave, left, to-sum, to-expr, Sourced, Naming, Declared, Valued, Overed, Left}
+use Rattle.parser.specs.Machine.{at, run, turn, put, marked, otherwise, start, is, on}
+use Rattle.parser.proofs.Left.{Rest, One, In, Shuts, Factored, Expressed, Sums, Compared, Tailed, Set, Tested, Leaves, Fin, Tail, leave, left, to-sum, to-expr, Sourced, Naming, Declared, Valued, Overed, Left}
 
 abbrev pub Res : Type 0
 Res = Result (List Row) Fault
@@ -44,6 +43,27 @@ put-ok r (Err f) rs h = err-ok f rs h
 
 abbrev pub leaf-of : Tok → Leaf
 leaf-of t = record { place = t .place; len = t .len; value = t .value }
+
+-- how an if is written, from its parts: up to the end of its first block, and from there on
+if-text : {i o : Leaf} {rs us vs ws : List Row} (e : Expr) (a : Block) (xs : List Row) → rs ≡ row role.IfWord i ∷ us → us ≡ text-expr e vs → vs ≡ row role.ThenOpen o ∷ ws → ws ≡ text a xs → rs ≡ row role.IfWord i ∷ text-expr e (row role.ThenOpen o ∷ text a xs)
+if-text {i} {o} e a xs p q r s = p ∙ ap (λ y. row role.IfWord i ∷ y) (q ∙ ap (text-expr e) (r ∙ ap (λ y. row role.ThenOpen o ∷ y) s))
+
+when-text : {c : Leaf} {rs us : List Row} (k : Block) (vs : List Row) → rs ≡ row role.WhenClose c ∷ us → us ≡ text k vs → rs ≡ row role.WhenClose c ∷ text k vs
+when-text {c} k vs p q = p ∙ ap (λ y. row role.WhenClose c ∷ y) q
+
+else-text : {c w o z : Leaf} {rs us vs ws xs ys : List Row} (b k : Block) (zs : List Row) → rs ≡ row role.ThenClose c ∷ us → us ≡ row role.ElseWord w ∷ vs → vs ≡ row role.ElseOpen o ∷ ws → ws ≡ text b xs → xs ≡ row role.ElseClose z ∷ ys → ys ≡ text k zs → rs ≡ row role.ThenClose c ∷ row role.ElseWord w ∷ row role.ElseOpen o ∷ text b (row role.ElseClose z ∷ text k zs)
+else-text {c} {w} {o} {z} b k zs p q r s t u =
+    p ∙ ap (λ y. row role.ThenClose c ∷ y) (q ∙ ap (λ y. row role.ElseWord w ∷ y) (r ∙ ap (λ y. row role.ElseOpen o ∷ y) (s ∙ ap (text b) (t ∙ ap (λ y. row role.ElseClose z ∷ y) u))))
+
+-- how a loop is written
+loop-text : {r n o z : Leaf} {rs us vs ws xs ys : List Row} (b k : Block) (zs : List Row) → rs ≡ row role.RepeatWord r ∷ us → us ≡ row role.Count n ∷ vs → vs ≡ row role.BodyOpen o ∷ ws → ws ≡ text b xs → xs ≡ row role.BodyClose z ∷ ys → ys ≡ text k zs → rs ≡ row role.RepeatWord r ∷ row role.Count n ∷ row role.BodyOpen o ∷ text b (row role.BodyClose z ∷ text k zs)
+loop-text {r} {n} {o} {z} b k zs p q s t u v =
+    p ∙ ap (λ y. row role.RepeatWord r ∷ y) (q ∙ ap (λ y. row role.Count n ∷ y) (s ∙ ap (λ y. row role.BodyOpen o ∷ y) (t ∙ ap (text b) (u ∙ ap (λ y. row role.BodyClose z ∷ y) v))))
+
+-- how a region is written
+atomic-text : {a o z : Leaf} {rs us vs ws xs : List Row} (b k : Block) (zs : List Row) → rs ≡ row role.AtomicWord a ∷ us → us ≡ row role.RegionOpen o ∷ vs → vs ≡ text b ws → ws ≡ row role.RegionClose z ∷ xs → xs ≡ text k zs → rs ≡ row role.AtomicWord a ∷ row role.RegionOpen o ∷ text b (row role.RegionClose z ∷ text k zs)
+atomic-text {a} {o} {z} b k zs p q r s t =
+    p ∙ ap (λ y. row role.AtomicWord a ∷ y) (q ∙ ap (λ y. row role.RegionOpen o ∷ y) (r ∙ ap (text b) (s ∙ ap (λ y. row role.RegionClose z ∷ y) t)))
 
 -- what is known of the tokens that follow
 abbrev Knows : ℕ → List Tok → Type 0
@@ -84,10 +104,10 @@ module _ (end : ℕ) (ts : List Tok) (ih : Knows end ts) (t : Tok) (rs : List Ro
       pick (is (t .sym) sym.Minus) _ _ fs h₁ (λ g. let a = one role.Negate (want.Negated e c) fs g in let n = a .3 in (negative (a .0) (n .0), n .1, a .2 ∙ ap (λ y. row role.Negate (a .0) ∷ y) (n .2), n .3)) (λ h₂.
       pick (is (t .sym) sym.Name) _ _ fs h₂ (λ g. let a = one role.Operand (want.More e c) fs g in (name (a .0), a .1, a .2, a .3)) (λ h₃.
       pick (is (t .sym) sym.ParenOpen) _ _ fs h₃ (λ g.
-        let a = one role.ParenOpen (want.Operand ends.Paren false) (frame.Paren e c ∷ fs) g in
-        let x = to-expr (Leaves (frame.Paren e c ∷ fs)) (a .1) (a .3) in
-        let z = left e c fs (x .1) (x .3) in
-        (paren (a .0) (x .0) (z .0), z .1, a .2 ∙ ap (λ y. row role.ParenOpen (a .0) ∷ y) (x .2 ∙ ap (text-expr (x .0)) (z .2)), z .3)) (none fs))))
+      let a = one role.ParenOpen (want.Operand ends.Paren false) (frame.Paren e c ∷ fs) g in
+      let x = to-expr (Leaves (frame.Paren e c ∷ fs)) (a .1) (a .3) in
+      let z = left e c fs (x .1) (x .3) in
+      (paren (a .0) (x .0) (z .0), z .1, a .2 ∙ ap (λ y. row role.ParenOpen (a .0) ∷ y) (x .2 ∙ ap (text-expr (x .0)) (z .2)), z .3)) (none fs))))
 
   ended : (c : Bool) (P : Rest) → P rs → Tailed c P rs
   ended true P p = record { factors = no-factor; terms = no-term; rest = rs; writes = refl; then = p }
@@ -151,11 +171,19 @@ module _ (end : ℕ) (ts : List Tok) (ih : Knows end ts) (t : Tok) (rs : List Ro
     where
       by : Sourced fs (a .3 .1) → In (Shuts fs) rs
       by (inl i) = let c = i .3 in let z = c .3 in let k = z .3 in
-          record { body = reading (a .0) (a .3 .0) (i .0) (c .0) (z .0) (k .body); rest = k .rest; then = k .then;
-            writes = a .2 ∙ ap (λ y. row role.Target (a .0) ∷ y) (a .3 .2 ∙ ap (λ y. row role.Becomes (a .3 .0) ∷ y) (i .2 ∙ ap (λ y. row role.InWord (i .0) ∷ y) (c .2 ∙ ap (λ y. row role.Channel (c .0) ∷ y) (z .2 ∙ ap (λ y. row role.ReadEnd (z .0) ∷ y) (k .writes))))) }
+          record {
+            body = reading (a .0) (a .3 .0) (i .0) (c .0) (z .0) (k .body);
+            rest = k .rest;
+            then = k .then;
+            writes = a .2 ∙ ap (λ y. row role.Target (a .0) ∷ y) (a .3 .2 ∙ ap (λ y. row role.Becomes (a .3 .0) ∷ y) (i .2 ∙ ap (λ y. row role.InWord (i .0) ∷ y) (c .2 ∙ ap (λ y. row role.Channel (c .0) ∷ y) (z .2 ∙ ap (λ y. row role.ReadEnd (z .0) ∷ y) (k .writes)))));
+          }
       by (inr f) = let x = to-expr (Set fs) (a .3 .1) f in let z = x .3 in let k = z .3 in
-          record { body = assign (a .0) (a .3 .0) (x .0) (z .0) (k .body); rest = k .rest; then = k .then;
-            writes = a .2 ∙ ap (λ y. row role.Target (a .0) ∷ y) (a .3 .2 ∙ ap (λ y. row role.Becomes (a .3 .0) ∷ y) (x .2 ∙ ap (text-expr (x .0)) (z .2 ∙ ap (λ y. row role.SetEnd (z .0) ∷ y) (k .writes)))) }
+          record {
+            body = assign (a .0) (a .3 .0) (x .0) (z .0) (k .body);
+            rest = k .rest;
+            then = k .then;
+            writes = a .2 ∙ ap (λ y. row role.Target (a .0) ∷ y) (a .3 .2 ∙ ap (λ y. row role.Becomes (a .3 .0) ∷ y) (x .2 ∙ ap (text-expr (x .0)) (z .2 ∙ ap (λ y. row role.SetEnd (z .0) ∷ y) (k .writes))));
+          }
 
   at-if : (fs : List Frame) → One role.IfWord (Factored (Tail ends.Brace false fs)) rs → In (Shuts fs) rs
   at-if fs a = by (to-expr (Tested fs) (a .1) (a .3))
@@ -165,26 +193,46 @@ module _ (end : ℕ) (ts : List Tok) (ih : Knows end ts) (t : Tok) (rs : List Ro
         where
           shut : Shuts (frame.Then ∷ fs) (x .3 .3 .rest) → In (Shuts fs) rs
           shut (inl c) = let o = x .3 in let b = o .3 in let k = c .3 in
-              record { body = when (a .0) (x .0) (o .0) (b .body) (c .0) (k .body); rest = k .rest; then = k .then;
-                writes = a .2 ∙ ap (λ y. row role.IfWord (a .0) ∷ y) (x .2 ∙ ap (text-expr (x .0)) (o .2 ∙ ap (λ y. row role.ThenOpen (o .0) ∷ y) (b .writes ∙ ap (text (b .body)) (c .2 ∙ ap (λ y. row role.WhenClose (c .0) ∷ y) (k .writes))))) }
+              record {
+                body = when (a .0) (x .0) (o .0) (b .body) (c .0) (k .body);
+                rest = k .rest;
+                then = k .then;
+                writes = if-text (x .0) (b .body) (b .rest) (a .2) (x .2) (o .2) (b .writes) ∙ ap (λ y. row role.IfWord (a .0) ∷ text-expr (x .0) (row role.ThenOpen (o .0) ∷ text (b .body) y)) (when-text (k .body) (k .rest) (c .2) (k .writes));
+              }
           shut (inr c) = let o = x .3 in let b = o .3 in let w = c .3 in let p = w .3 in let d = p .3 in let z = d .then in let k = z .3 in
-              record { body = either (a .0) (x .0) (o .0) (b .body) (c .0) (w .0) (p .0) (d .body) (z .0) (k .body); rest = k .rest; then = k .then;
-                writes = a .2 ∙ ap (λ y. row role.IfWord (a .0) ∷ y) (x .2 ∙ ap (text-expr (x .0)) (o .2 ∙ ap (λ y. row role.ThenOpen (o .0) ∷ y) (b .writes ∙ ap (text (b .body)) (c .2 ∙ ap (λ y. row role.ThenClose (c .0) ∷ y) (w .2 ∙ ap (λ y. row role.ElseWord (w .0) ∷ y) (p .2 ∙ ap (λ y. row role.ElseOpen (p .0) ∷ y) (d .writes ∙ ap (text (d .body)) (z .2 ∙ ap (λ y. row role.ElseClose (z .0) ∷ y) (k .writes))))))))) }
+              record {
+                body = either (a .0) (x .0) (o .0) (b .body) (c .0) (w .0) (p .0) (d .body) (z .0) (k .body);
+                rest = k .rest;
+                then = k .then;
+                writes = if-text (x .0) (b .body) (b .rest) (a .2) (x .2) (o .2) (b .writes) ∙ ap (λ y. row role.IfWord (a .0) ∷ text-expr (x .0) (row role.ThenOpen (o .0) ∷ text (b .body) y)) (else-text (d .body) (k .body) (k .rest) (c .2) (w .2) (p .2) (d .writes) (z .2) (k .writes));
+              }
 
   at-repeat : (fs : List Frame) → One role.RepeatWord (One role.Count (One role.BodyOpen (In (Shuts (frame.Body ∷ fs))))) rs → In (Shuts fs) rs
   at-repeat fs a = let n = a .3 in let o = n .3 in let b = o .3 in let z = b .then in let k = z .3 in
-      record { body = loop (a .0) (n .0) (o .0) (b .body) (z .0) (k .body); rest = k .rest; then = k .then;
-        writes = a .2 ∙ ap (λ y. row role.RepeatWord (a .0) ∷ y) (n .2 ∙ ap (λ y. row role.Count (n .0) ∷ y) (o .2 ∙ ap (λ y. row role.BodyOpen (o .0) ∷ y) (b .writes ∙ ap (text (b .body)) (z .2 ∙ ap (λ y. row role.BodyClose (z .0) ∷ y) (k .writes))))) }
+      record {
+        body = loop (a .0) (n .0) (o .0) (b .body) (z .0) (k .body);
+        rest = k .rest;
+        then = k .then;
+        writes = loop-text (b .body) (k .body) (k .rest) (a .2) (n .2) (o .2) (b .writes) (z .2) (k .writes);
+      }
 
   at-atomic : (fs : List Frame) → One role.AtomicWord (One role.RegionOpen (In (Shuts (frame.Region ∷ fs)))) rs → In (Shuts fs) rs
   at-atomic fs a = let o = a .3 in let b = o .3 in let z = b .then in let k = z .3 in
-      record { body = atomic (a .0) (o .0) (b .body) (z .0) (k .body); rest = k .rest; then = k .then;
-        writes = a .2 ∙ ap (λ y. row role.AtomicWord (a .0) ∷ y) (o .2 ∙ ap (λ y. row role.RegionOpen (o .0) ∷ y) (b .writes ∙ ap (text (b .body)) (z .2 ∙ ap (λ y. row role.RegionClose (z .0) ∷ y) (k .writes)))) }
+      record {
+        body = atomic (a .0) (o .0) (b .body) (z .0) (k .body);
+        rest = k .rest;
+        then = k .then;
+        writes = atomic-text (b .body) (k .body) (k .rest) (a .2) (o .2) (b .writes) (z .2) (k .writes);
+      }
 
   at-together : (fs : List Frame) → One role.TogetherWord (One role.Listed (Naming fs)) rs → In (Shuts fs) rs
   at-together fs a = let x = a .3 in let n = x .3 in let k = n .4 in
-      record { body = together (a .0) (x .0) (n .0) (n .1) (k .body); rest = k .rest; then = k .then;
-        writes = a .2 ∙ ap (λ y. row role.TogetherWord (a .0) ∷ y) (x .2 ∙ ap (λ y. row role.Listed (x .0) ∷ y) (n .3 ∙ ap (λ y. text-names (n .0) (row role.TogetherEnd (n .1) ∷ y)) (k .writes))) }
+      record {
+        body = together (a .0) (x .0) (n .0) (n .1) (k .body);
+        rest = k .rest;
+        then = k .then;
+        writes = a .2 ∙ ap (λ y. row role.TogetherWord (a .0) ∷ y) (x .2 ∙ ap (λ y. row role.Listed (x .0) ∷ y) (n .3 ∙ ap (λ y. text-names (n .0) (row role.TogetherEnd (n .1) ∷ y)) (k .writes)));
+      }
 
   shut-then : (b : Bool) (fs : List Frame) (us : List Row) → rs ≡ marked (cond b role.ThenClose role.WhenClose) t ∷ us → Overed b fs us → Shuts (frame.Then ∷ fs) rs
   shut-then true fs us e h = inr (leaf-of t, us, e, h)
@@ -217,8 +265,8 @@ module _ (end : ℕ) (ts : List Tok) (ih : Knows end ts) (t : Tok) (rs : List Ro
   at-list : (fs : List Frame) → Turns (on (t .sym) sym.Comma (Stay role.Comma want.Listed) (on (t .sym) sym.Semicolon (Stay role.TogetherEnd want.Stmt) Refuse)) fs → Naming fs rs
   at-list fs h =
       pick (is (t .sym) sym.Comma) _ _ fs h (λ g.
-        let a = one role.Comma want.Listed fs g in let x = a .3 in let n = x .3 in
-        (comma (a .0) (x .0) (n .0), n .1, n .2, a .2 ∙ ap (λ y. row role.Comma (a .0) ∷ y) (x .2 ∙ ap (λ y. row role.Listed (x .0) ∷ y) (n .3)), n .4)) (λ h₁.
+      let a = one role.Comma want.Listed fs g in let x = a .3 in let n = x .3 in
+      (comma (a .0) (x .0) (n .0), n .1, n .2, a .2 ∙ ap (λ y. row role.Comma (a .0) ∷ y) (x .2 ∙ ap (λ y. row role.Listed (x .0) ∷ y) (n .3)), n .4)) (λ h₁.
       let z = only (is (t .sym) sym.Semicolon) role.TogetherEnd want.Stmt fs h₁ in
       (no-name, z .0, z .1, z .2, z .3))
 
@@ -229,23 +277,47 @@ module _ (end : ℕ) (ts : List Tok) (ih : Knows end ts) (t : Tok) (rs : List Ro
     where
       by : Valued (Declared fs) (a .3 .3 .1) → Declared fs rs
       by (inl m) = let x = a .3 in let q = x .3 in let n = m .3 in let z = n .3 in let d = z .3 in
-          record { decls = minus-cell (a .0) (x .0) (q .0) (m .0) (n .0) (z .0) (d .decls); word = d .word; open′ = d .open′; rest = d .rest; then = d .then;
-            writes = a .2 ∙ ap (λ y. row role.CellWord (a .0) ∷ y) (x .2 ∙ ap (λ y. row role.CellName (x .0) ∷ y) (q .2 ∙ ap (λ y. row role.CellIs (q .0) ∷ y) (m .2 ∙ ap (λ y. row role.CellMinus (m .0) ∷ y) (n .2 ∙ ap (λ y. row role.CellNumber (n .0) ∷ y) (z .2 ∙ ap (λ y. row role.CellEnd (z .0) ∷ y) (d .writes)))))) }
+          record {
+            decls = minus-cell (a .0) (x .0) (q .0) (m .0) (n .0) (z .0) (d .decls);
+            word = d .word;
+            open′ = d .open′;
+            rest = d .rest;
+            then = d .then;
+            writes = a .2 ∙ ap (λ y. row role.CellWord (a .0) ∷ y) (x .2 ∙ ap (λ y. row role.CellName (x .0) ∷ y) (q .2 ∙ ap (λ y. row role.CellIs (q .0) ∷ y) (m .2 ∙ ap (λ y. row role.CellMinus (m .0) ∷ y) (n .2 ∙ ap (λ y. row role.CellNumber (n .0) ∷ y) (z .2 ∙ ap (λ y. row role.CellEnd (z .0) ∷ y) (d .writes))))));
+          }
       by (inr n) = let x = a .3 in let q = x .3 in let z = n .3 in let d = z .3 in
-          record { decls = cell (a .0) (x .0) (q .0) (n .0) (z .0) (d .decls); word = d .word; open′ = d .open′; rest = d .rest; then = d .then;
-            writes = a .2 ∙ ap (λ y. row role.CellWord (a .0) ∷ y) (x .2 ∙ ap (λ y. row role.CellName (x .0) ∷ y) (q .2 ∙ ap (λ y. row role.CellIs (q .0) ∷ y) (n .2 ∙ ap (λ y. row role.CellNumber (n .0) ∷ y) (z .2 ∙ ap (λ y. row role.CellEnd (z .0) ∷ y) (d .writes))))) }
+          record {
+            decls = cell (a .0) (x .0) (q .0) (n .0) (z .0) (d .decls);
+            word = d .word;
+            open′ = d .open′;
+            rest = d .rest;
+            then = d .then;
+            writes = a .2 ∙ ap (λ y. row role.CellWord (a .0) ∷ y) (x .2 ∙ ap (λ y. row role.CellName (x .0) ∷ y) (q .2 ∙ ap (λ y. row role.CellIs (q .0) ∷ y) (n .2 ∙ ap (λ y. row role.CellNumber (n .0) ∷ y) (z .2 ∙ ap (λ y. row role.CellEnd (z .0) ∷ y) (d .writes)))));
+          }
 
   at-decl : (fs : List Frame) → Turns (machine.rule want.Decl (t .sym)) fs → Declared fs rs
   at-decl fs h =
       pick (is (t .sym) sym.Cell) _ _ fs h (λ g. at-cell fs (one role.CellWord want.CellName fs g)) (λ h₁.
       pick (is (t .sym) sym.Var) _ _ fs h₁ (λ g.
-        let a = one role.VarWord want.VarName fs g in let x = a .3 in let z = x .3 in let d = z .3 in
-        record { decls = var (a .0) (x .0) (z .0) (d .decls); word = d .word; open′ = d .open′; rest = d .rest; then = d .then;
-          writes = a .2 ∙ ap (λ y. row role.VarWord (a .0) ∷ y) (x .2 ∙ ap (λ y. row role.VarName (x .0) ∷ y) (z .2 ∙ ap (λ y. row role.VarEnd (z .0) ∷ y) (d .writes))) }) (λ h₂.
+      let a = one role.VarWord want.VarName fs g in let x = a .3 in let z = x .3 in let d = z .3 in
+      record {
+        decls = var (a .0) (x .0) (z .0) (d .decls);
+        word = d .word;
+        open′ = d .open′;
+        rest = d .rest;
+        then = d .then;
+        writes = a .2 ∙ ap (λ y. row role.VarWord (a .0) ∷ y) (x .2 ∙ ap (λ y. row role.VarName (x .0) ∷ y) (z .2 ∙ ap (λ y. row role.VarEnd (z .0) ∷ y) (d .writes)));
+      }) (λ h₂.
       pick (is (t .sym) sym.Fresh) _ _ fs h₂ (λ g.
-        let a = one role.FreshWord want.FreshName fs g in let x = a .3 in let z = x .3 in let d = z .3 in
-        record { decls = fresh (a .0) (x .0) (z .0) (d .decls); word = d .word; open′ = d .open′; rest = d .rest; then = d .then;
-          writes = a .2 ∙ ap (λ y. row role.FreshWord (a .0) ∷ y) (x .2 ∙ ap (λ y. row role.FreshName (x .0) ∷ y) (z .2 ∙ ap (λ y. row role.FreshEnd (z .0) ∷ y) (d .writes))) }) (λ h₃.
+      let a = one role.FreshWord want.FreshName fs g in let x = a .3 in let z = x .3 in let d = z .3 in
+      record {
+        decls = fresh (a .0) (x .0) (z .0) (d .decls);
+        word = d .word;
+        open′ = d .open′;
+        rest = d .rest;
+        then = d .then;
+        writes = a .2 ∙ ap (λ y. row role.FreshWord (a .0) ∷ y) (x .2 ∙ ap (λ y. row role.FreshName (x .0) ∷ y) (z .2 ∙ ap (λ y. row role.FreshEnd (z .0) ∷ y) (d .writes)));
+      }) (λ h₃.
       let a = only (is (t .sym) sym.Main) role.MainWord want.MainOpen fs h₃ in let o = a .3 in
       record { decls = no-decl; word = a .0; open′ = o .0; rest = o .1; then = o .3; writes = a .2 ∙ ap (λ y. row role.MainWord (a .0) ∷ y) (o .2) })))
 
@@ -316,6 +388,7 @@ pub script-of : (end : ℕ) (ts : List Tok) (rs : List Row) → run end ts start
 script-of end ts rs h =
     let d = sound end ts want.Decl [] rs h in
     let b = d .then in
-    let z = b .then in
-    (record { decls = d .decls; word = d .word; open′ = d .open′; main = b .body; close = z .0 },
-     d .writes ∙ ap (λ y. text-decls (d .decls) (row role.MainWord (d .word) ∷ row role.MainOpen (d .open′) ∷ y)) (b .writes ∙ ap (text (b .body)) (z .2 ∙ ap (λ y. row role.MainClose (z .0) ∷ y) (z .3))))
+    let z = b .then in (
+      record { decls = d .decls; word = d .word; open′ = d .open′; main = b .body; close = z .0 },
+      d .writes ∙ ap (λ y. text-decls (d .decls) (row role.MainWord (d .word) ∷ row role.MainOpen (d .open′) ∷ y)) (b .writes ∙ ap (text (b .body)) (z .2 ∙ ap (λ y. row role.MainClose (z .0) ∷ y) (z .3))),
+    )

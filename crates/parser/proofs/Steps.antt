@@ -2,13 +2,12 @@
 use mathlib.Core.Path.{_≡_, refl, sym, ap, subst, _∙_}
 use mathlib.Core.Bool.{Bool, true, false, cond}
 use mathlib.Core.List.{List, [], _∷_, _++_, append-assoc}
-use mathlib.Core.Logic.{_≢_, _⊎_, inl, inr}
+use mathlib.Core.Logic.{_≢_, inl, inr}
 use Prim.Native.Nat.{ℕ, zero, suc, _+_, _-_, _≤_, _<_}
 use native.Mathlib.Omega.{arith}
 use native.Mathlib.Numerals.{add-one}
 use lib.Dec.{leb, eqb}
 use lib.ListN.{length, getD, drop, take, set, length-set}
-use Rattle.std.specs.declared.option.Option.{Option}
 use Rattle.std.specs.declared.option.Option.the-variants.{Some, None}
 use Rattle.std.specs.declared.result.Result.{Result}
 use Rattle.std.specs.declared.result.Result.the-variants.{Ok, Err}
@@ -31,8 +30,8 @@ use Rattle.parser.specs.declared.machine.Mark.the-variants as mark
 use Rattle.parser.specs.declared.machine.Move.{Move}
 use Rattle.parser.specs.declared.machine.Move.the-variants.{Stay, Push, Pop, Refuse}
 use Rattle.parser.specs.declared.machine.Want.{Want}
-use Rattle.script.specs.Nesting.{opens, closes, open-after, nesting-from, nesting}
-use Rattle.parser.specs.Machine.{State, at, run, goes, turn, put, marked, given, moved, popped, after, closed, closing, top-closing, otherwise, rule, ruleOf, start, stackOf, viewOf, isEnd, is, Goes, Stops, Pops}
+use Rattle.script.specs.Nesting.{opens, closes, open-after, nesting}
+use Rattle.parser.specs.Machine.{at, run, goes, turn, put, marked, given, moved, popped, after, closed, closing, top-closing, otherwise, ruleOf, start, stackOf, viewOf, isEnd, is, Goes, Stops, Pops}
 use Rattle.parser.proofs.Table.{Fits, fits}
 use Rattle.parser.proofs.Depth.{Counted, counted-on, counted-off}
 

@@ -2,8 +2,6 @@
 use mathlib.Core.Path.{_≡_, refl, subst}
 use mathlib.Core.Path.{sym as sym′}
 use mathlib.Core.Bool.{Bool, true, false, cond}
-use Rattle.script.specs.declared.row.Role.{Role}
-use Rattle.script.specs.declared.row.Role.the-variants as role
 use Rattle.script.specs.declared.token.Sym.{Sym}
 use Rattle.script.specs.declared.token.Sym.the-variants as sym
 use Rattle.script.specs.Written.{sym-of}
@@ -15,7 +13,7 @@ use Rattle.parser.specs.declared.machine.Mark.the-variants as mark
 use Rattle.parser.specs.declared.machine.Move.{Move}
 use Rattle.parser.specs.declared.machine.Move.the-variants.{Stay, Push, Pop, Refuse}
 use Rattle.script.specs.Nesting.{opens, closes}
-use Rattle.parser.specs.Machine.{is, on, rule, stmt, over, source, operand, more, compared, finish}
+use Rattle.parser.specs.Machine.{is, on, rule, stmt, operand, more, compared, finish}
 use Rattle.parser.proofs.Symbols.{same}
 
 -- the role is the token's, and the stack grows and shrinks with what opens and closes

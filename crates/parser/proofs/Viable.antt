@@ -1,13 +1,12 @@
 -- Where the machine stops, no script goes on. Assumes nothing.
-use mathlib.Core.Path.{_≡_, refl, ap, subst, _∙_}
+use mathlib.Core.Path.{_≡_, refl, ap, _∙_}
 use mathlib.Core.Path.{sym as sym′}
 use mathlib.Core.Bool.{Bool, true, false, cond}
 use mathlib.Core.List.{List, [], _∷_, _++_, map, append-assoc}
-use mathlib.Core.Logic.{_⊎_, inl, inr, ⊎-elim}
+use mathlib.Core.Logic.{_⊎_, inl, inr}
 use Prim.Native.Nat.{ℕ}
 use Rattle.std.specs.declared.option.Option.{Option}
 use Rattle.std.specs.declared.option.Option.the-variants.{Some, None}
-use Rattle.std.specs.declared.result.Result.{Result}
 use Rattle.std.specs.declared.result.Result.the-variants.{Ok, Err}
 use Rattle.script.specs.declared.fault.Fault.{Fault}
 use Rattle.script.specs.declared.row.Role.{Role}
@@ -17,7 +16,7 @@ use Rattle.script.specs.declared.token.Sym.the-variants as sym
 use Rattle.script.specs.declared.token.Tok.{Tok}
 use Rattle.script.specs.Faults.{fault}
 use Rattle.script.specs.Syntax.{Script}
-use Rattle.script.specs.Written.{token, rows, Writes, Begins, Stray, Breaks}
+use Rattle.script.specs.Written.{token, Writes, Begins, Breaks}
 use Rattle.parser.specs.declared.machine.Ends.{Ends}
 use Rattle.parser.specs.declared.machine.Ends.the-variants as ends
 use Rattle.parser.specs.declared.machine.Want.{Want}
@@ -26,9 +25,9 @@ use Rattle.parser.specs.declared.machine.Frame.{Frame}
 use Rattle.parser.specs.declared.machine.Frame.the-variants as frame
 use Rattle.parser.specs.declared.machine.Mark.the-variants as mark
 use Rattle.parser.specs.declared.machine.Move.{Move}
-use Rattle.parser.specs.declared.machine.Move.the-variants.{Stay, Push, Pop, Refuse}
+use Rattle.parser.specs.declared.machine.Move.the-variants.{Pop}
 use Rattle.parser.specs.Machine as machine
-use Rattle.parser.specs.Machine.{State, at, run, goes, turn, put, marked, given, moved, otherwise, start, is, on, rule, isEnd}
+use Rattle.parser.specs.Machine.{State, at, run, goes, put, marked, given, moved, otherwise, start, is, on, rule, isEnd}
 use Rattle.parser.proofs.Sound.{Res, err-ok, script-of}
 use Rattle.parser.proofs.Kept.{kept}
 use Rattle.parser.proofs.Complete.{script-read}
@@ -391,9 +390,9 @@ module _ (end : ℕ) (t : Tok) (ts : List Tok) (s : State) (f : Fault) where
     onward = k .onward;
     before = step end t (k .pre ++ k .onward) s s′ e (k .before);
     never = λ q.
-      let us : List Tok = k .pre ++ k .token ∷ q in
-      let g : Role = given (rule (s .want) (t .sym)) (s .stack) (otherwise us) in
-      ap (λ o. goes t g o (run end us)) e ∙ ap (put (marked g t)) (k .never q);
+        let us : List Tok = k .pre ++ k .token ∷ q in
+        let g : Role = given (rule (s .want) (t .sym)) (s .stack) (otherwise us) in
+        ap (λ o. goes t g o (run end us)) e ∙ ap (put (marked g t)) (k .never q);
   })
   step-on s′ e (inr k) = inr (record { is-fault = k .is-fault; onward = k .onward; before = step end t (ts ++ k .onward) s s′ e (k .before) })
 
@@ -423,9 +422,24 @@ breaks end ts f e = by-end (viable end ts start f tt e)
   where
     never : (us : List Tok) (s : Script) → run end us start ≡ Err f → Writes us s → ⊥
     never us s d w = err-ok f _ (sym′ d ∙ ap (λ l. run end l start) w ∙ script-read end s)
+
     whole : (p : ℕ) → f ≡ fault 6 p → f ≡ fault 6 (f .place)
     whole p d = d ∙ ap (λ x. fault 6 (x .place)) (sym′ d)
+
     by-end : Stuck end ts start f ⊎ Short end ts start f → (f ≡ fault 6 (f .place)) × Breaks end ts (f .place)
-    by-end (inl k) = (whole _ (k .is-fault), (λ s w. never ts s e w, inl (k .pre, k .token, k .post, k .parts, ap (λ x. x .place) (sym′ (k .is-fault)), begins end (k .pre) (k .onward) (k .before),
-      λ b. never _ (b .1) (ap (λ l. run end l start) (append-assoc (k .pre) (k .token ∷ []) (b .0)) ∙ k .never (b .0)) (b .2))))
+    by-end (inl k) = (
+      whole _ (k .is-fault),
+      (
+        λ s w. never ts s e w,
+        inl (
+          k .pre,
+          k .token,
+          k .post,
+          k .parts,
+          ap (λ x. x .place) (sym′ (k .is-fault)),
+          begins end (k .pre) (k .onward) (k .before),
+          λ b. never _ (b .1) (ap (λ l. run end l start) (append-assoc (k .pre) (k .token ∷ []) (b .0)) ∙ k .never (b .0)) (b .2),
+        ),
+      ),
+    )
     by-end (inr k) = (whole _ (k .is-fault), (λ s w. never ts s e w, inr (ap (λ x. x .place) (k .is-fault), begins end ts (k .onward) (k .before))))

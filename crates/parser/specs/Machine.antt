@@ -68,6 +68,18 @@ on s t yes′ no′ = cond (is s t) yes′ no′
 
 -- ---- the table of moves
 
+-- a declaration, or main
+abbrev pub decl : Sym → Move
+decl s =
+    on s sym.Cell (Stay role.CellWord want.CellName)
+    (on s sym.Var (Stay role.VarWord want.VarName)
+    (on s sym.Fresh (Stay role.FreshWord want.FreshName)
+    (on s sym.Main (Stay role.MainWord want.MainOpen) Refuse)))
+
+-- the brace that opens a block
+abbrev pub block : Role → Frame → Sym → Move
+block r f s = on s sym.BraceOpen (Push r f want.Stmt) Refuse
+
 -- a statement, or the end of the block
 abbrev pub stmt : Sym → Move
 stmt s =
@@ -114,11 +126,7 @@ more e c s =
     (on s sym.Minus (Stay role.Minus (want.Operand e c)) (compared e c s))))
 
 abbrev pub rule : Want → Sym → Move
-rule want.Decl s =
-    on s sym.Cell (Stay role.CellWord want.CellName)
-    (on s sym.Var (Stay role.VarWord want.VarName)
-    (on s sym.Fresh (Stay role.FreshWord want.FreshName)
-    (on s sym.Main (Stay role.MainWord want.MainOpen) Refuse)))
+rule want.Decl s = decl s
 rule want.CellName s = on s sym.Name (Stay role.CellName want.CellIs) Refuse
 rule want.CellIs s = on s sym.Assign (Stay role.CellIs want.CellValue) Refuse
 rule want.CellValue s = on s sym.Minus (Stay role.CellMinus want.CellNumber) (on s sym.Number (Stay role.CellNumber want.CellEnd) Refuse)
@@ -128,7 +136,7 @@ rule want.VarName s = on s sym.Name (Stay role.VarName want.VarEnd) Refuse
 rule want.VarEnd s = on s sym.Semicolon (Stay role.VarEnd want.Decl) Refuse
 rule want.FreshName s = on s sym.Name (Stay role.FreshName want.FreshEnd) Refuse
 rule want.FreshEnd s = on s sym.Semicolon (Stay role.FreshEnd want.Decl) Refuse
-rule want.MainOpen s = on s sym.BraceOpen (Push role.MainOpen frame.Main want.Stmt) Refuse
+rule want.MainOpen s = block role.MainOpen frame.Main s
 rule want.Stmt s = stmt s
 rule want.Over s = over s
 rule want.Becomes s = on s sym.Assign (Stay role.Becomes want.Source) Refuse
@@ -139,9 +147,9 @@ rule (want.Operand e c) s = operand e c s
 rule (want.Negated e c) s = on s sym.Number (Stay role.Negated (want.More e c)) Refuse
 rule (want.More e c) s = more e c s
 rule want.Count s = on s sym.Number (Stay role.Count want.BodyOpen) Refuse
-rule want.BodyOpen s = on s sym.BraceOpen (Push role.BodyOpen frame.Body want.Stmt) Refuse
-rule want.RegionOpen s = on s sym.BraceOpen (Push role.RegionOpen frame.Region want.Stmt) Refuse
-rule want.ElseOpen s = on s sym.BraceOpen (Push role.ElseOpen frame.Other want.Stmt) Refuse
+rule want.BodyOpen s = block role.BodyOpen frame.Body s
+rule want.RegionOpen s = block role.RegionOpen frame.Region s
+rule want.ElseOpen s = block role.ElseOpen frame.Other s
 rule want.Listed s = on s sym.Name (Stay role.Listed want.ListMore) Refuse
 rule want.ListMore s = on s sym.Comma (Stay role.Comma want.Listed) (on s sym.Semicolon (Stay role.TogetherEnd want.Stmt) Refuse)
 rule want.End s = Refuse

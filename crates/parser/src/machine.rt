@@ -1,6 +1,9 @@
 // The state of the reader: what it wants next, and the braces and parentheses that are open.
 use script::row::Role;
 
+// How many braces and parentheses can be open at once.
+pub const DEEPEST: usize = 16;
+
 // What ends the expression that is being read.
 #[derive(Clone, Copy)]
 pub enum Ends {
@@ -70,6 +73,6 @@ pub enum Move {
 #[derive(Clone, Copy)]
 pub struct Machine {
     pub want: Want,
-    pub stack: [Frame; 16],
+    pub stack: [Frame; DEEPEST],
     pub depth: usize,
 }

@@ -3,11 +3,10 @@ ghost use mathlib.Core.Path.{_≡_};
 ghost use Prim.Native.Nat.{_≤_};
 ghost use Rattle.script.specs.Faults.{answer};
 ghost use Rattle.script.specs.Nesting.{nesting, open-after};
+use crate::machine::DEEPEST;
 use script::fault::Fault;
 use script::token::Sym;
 use script::token::Tok;
-
-const DEEPEST: usize = 16;
 
 // How many are open after the token, where `open` were before it.
 fn open_after(sym: Sym, open: usize) -> Option<usize>
@@ -22,13 +21,7 @@ fn open_after(sym: Sym, open: usize) -> Option<usize>
                 Some(open + 1)
             }
         }
-        Sym::BraceClose | Sym::ParenClose => {
-            if open == 0 {
-                None
-            } else {
-                Some(open - 1)
-            }
-        }
+        Sym::BraceClose | Sym::ParenClose => { if open == 0 { None } else { Some(open - 1) } }
         _ => Some(open),
     }
 }

@@ -1,6 +1,6 @@
 // What each token does to the reader's state, by what is wanted: the grammar as a table.
 ghost use mathlib.Core.Path.{_≡_};
-ghost use Rattle.parser.specs.Machine.{rule, stmt, over, source, operand, more, finish, closed, closing, isEnd};
+ghost use Rattle.parser.specs.Machine.{rule, decl, block, stmt, over, source, operand, more, finish, closed, closing, isEnd};
 use crate::machine::Ends;
 use crate::machine::Frame;
 use crate::machine::Mark;
@@ -8,6 +8,29 @@ use crate::machine::Move;
 use crate::machine::Want;
 use script::row::Role;
 use script::token::Sym;
+
+// A declaration, or main.
+fn decl_rule(sym: Sym) -> Move
+    ensures { λ r. ⌜ r ≡ decl sym ⌝ }
+{
+    match sym {
+        Sym::Cell => Move::Stay(Role::CellWord, Want::CellName),
+        Sym::Var => Move::Stay(Role::VarWord, Want::VarName),
+        Sym::Fresh => Move::Stay(Role::FreshWord, Want::FreshName),
+        Sym::Main => Move::Stay(Role::MainWord, Want::MainOpen),
+        _ => Move::Refuse,
+    }
+}
+
+// The brace that opens a block.
+fn open_rule(role: Role, frame: Frame, sym: Sym) -> Move
+    ensures { λ r. ⌜ r ≡ block role frame sym ⌝ }
+{
+    match sym {
+        Sym::BraceOpen => Move::Push(role, frame, Want::Stmt),
+        _ => Move::Refuse,
+    }
+}
 
 // A statement, or the end of the block.
 fn stmt_rule(sym: Sym) -> Move
@@ -42,7 +65,11 @@ fn operand_rule(ends: Ends, compared: bool, sym: Sym) -> Move
         Sym::Number => Move::Stay(Role::Literal, Want::More(ends, compared)),
         Sym::Minus => Move::Stay(Role::Negate, Want::Negated(ends, compared)),
         Sym::Name => Move::Stay(Role::Operand, Want::More(ends, compared)),
-        Sym::ParenOpen => Move::Push(Role::ParenOpen, Frame::Paren(ends, compared), Want::Operand(Ends::Paren, false)),
+        Sym::ParenOpen => Move::Push(
+            Role::ParenOpen,
+            Frame::Paren(ends, compared),
+            Want::Operand(Ends::Paren, false),
+        ),
         _ => Move::Refuse,
     }
 }
@@ -84,24 +111,23 @@ fn more_rule(ends: Ends, compared: bool, sym: Sym) -> Move
     }
 }
 
+// The move of a token, by what is wanted.
 pub fn rule_of(want: Want, sym: Sym) -> Move
     ensures { λ r. ⌜ r ≡ rule want sym ⌝ }
 {
     match (want, sym) {
-        (Want::Decl, Sym::Cell) => Move::Stay(Role::CellWord, Want::CellName),
-        (Want::Decl, Sym::Var) => Move::Stay(Role::VarWord, Want::VarName),
-        (Want::Decl, Sym::Fresh) => Move::Stay(Role::FreshWord, Want::FreshName),
-        (Want::Decl, Sym::Main) => Move::Stay(Role::MainWord, Want::MainOpen),
+        (Want::Decl, _) => decl_rule(sym),
         (Want::CellName, Sym::Name) => Move::Stay(Role::CellName, Want::CellIs),
         (Want::CellIs, Sym::Assign) => Move::Stay(Role::CellIs, Want::CellValue),
         (Want::CellValue, Sym::Minus) => Move::Stay(Role::CellMinus, Want::CellNumber),
-        (Want::CellValue | Want::CellNumber, Sym::Number) => Move::Stay(Role::CellNumber, Want::CellEnd),
+        (Want::CellValue, Sym::Number) => Move::Stay(Role::CellNumber, Want::CellEnd),
+        (Want::CellNumber, Sym::Number) => Move::Stay(Role::CellNumber, Want::CellEnd),
         (Want::CellEnd, Sym::Semicolon) => Move::Stay(Role::CellEnd, Want::Decl),
         (Want::VarName, Sym::Name) => Move::Stay(Role::VarName, Want::VarEnd),
         (Want::VarEnd, Sym::Semicolon) => Move::Stay(Role::VarEnd, Want::Decl),
         (Want::FreshName, Sym::Name) => Move::Stay(Role::FreshName, Want::FreshEnd),
         (Want::FreshEnd, Sym::Semicolon) => Move::Stay(Role::FreshEnd, Want::Decl),
-        (Want::MainOpen, Sym::BraceOpen) => Move::Push(Role::MainOpen, Frame::Main, Want::Stmt),
+        (Want::MainOpen, _) => open_rule(Role::MainOpen, Frame::Main, sym),
         (Want::Stmt, _) => stmt_rule(sym),
         (Want::Over, _) => over_rule(sym),
         (Want::Becomes, Sym::Assign) => Move::Stay(Role::Becomes, Want::Source),
@@ -109,12 +135,12 @@ pub fn rule_of(want: Want, sym: Sym) -> Move
         (Want::Channel, Sym::Number) => Move::Stay(Role::Channel, Want::ReadEnd),
         (Want::ReadEnd, Sym::Semicolon) => Move::Stay(Role::ReadEnd, Want::Stmt),
         (Want::Operand(ends, compared), _) => operand_rule(ends, compared, sym),
-        (Want::Negated(ends, compared), Sym::Number) => Move::Stay(Role::Negated, Want::More(ends, compared)),
+        (Want::Negated(e, c), Sym::Number) => Move::Stay(Role::Negated, Want::More(e, c)),
         (Want::More(ends, compared), _) => more_rule(ends, compared, sym),
         (Want::Count, Sym::Number) => Move::Stay(Role::Count, Want::BodyOpen),
-        (Want::BodyOpen, Sym::BraceOpen) => Move::Push(Role::BodyOpen, Frame::Body, Want::Stmt),
-        (Want::RegionOpen, Sym::BraceOpen) => Move::Push(Role::RegionOpen, Frame::Region, Want::Stmt),
-        (Want::ElseOpen, Sym::BraceOpen) => Move::Push(Role::ElseOpen, Frame::Other, Want::Stmt),
+        (Want::BodyOpen, _) => open_rule(Role::BodyOpen, Frame::Body, sym),
+        (Want::RegionOpen, _) => open_rule(Role::RegionOpen, Frame::Region, sym),
+        (Want::ElseOpen, _) => open_rule(Role::ElseOpen, Frame::Other, sym),
         (Want::Listed, Sym::Name) => Move::Stay(Role::Listed, Want::ListMore),
         (Want::ListMore, Sym::Comma) => Move::Stay(Role::Comma, Want::Listed),
         (Want::ListMore, Sym::Semicolon) => Move::Stay(Role::TogetherEnd, Want::Stmt),
@@ -155,6 +181,7 @@ pub fn closing_of(frame: Frame, other: bool) -> Role
     }
 }
 
+// Whether the script is whole.
 pub fn is_end(want: Want) -> bool
     ensures { λ r. ⌜ r ≡ isEnd want ⌝ }
 {

@@ -1,6 +1,5 @@
 -- The script that rows are. Each row, from the last to the first, adds what it is to what follows it. Assumes nothing.
 use mathlib.Core.List.{List, [], _∷_}
-use Prim.Native.Nat.{ℕ}
 use Rattle.std.specs.declared.option.Option.{Option}
 use Rattle.std.specs.declared.option.Option.the-variants.{Some, None}
 use Rattle.script.specs.declared.row.Role.{Role}

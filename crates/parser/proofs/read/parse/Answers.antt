@@ -7,7 +7,7 @@ pub returns : need.returns
 returns c = record {
   beyond = c .rows-of .ensures .beyond;
   reads = λ n h.
-    cases-weaker (c .rows-of .result) (c .rows-of .ensures .runs n h)
-    (λ _ e. read (c .args .end) (c .args .toks .now) _ e)
-    (λ f e. breaks (c .args .end) (c .args .toks .now) f e);
+      cases-weaker (c .rows-of .result) (c .rows-of .ensures .runs n)
+      (λ _ e. read (c .args .end) (c .args .toks .now) _ e)
+      (λ f e. breaks (c .args .end) (c .args .toks .now) f e);
 }

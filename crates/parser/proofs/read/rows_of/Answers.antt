@@ -11,7 +11,7 @@ returns-in-Break-out c =
     let p = err-from-errBy (c .from-residual .result) (c .from-residual .ensures .1) in
     record {
       beyond = untouched (c .loop-i .inv) (omega arith);
-      runs = λ n h. rw (p .1, p .2) (stops (c .loop-i .inv) (c .loop-i-test .taken) _ (getD-default _ _ _ _ (c .loop-i-test .taken)) _ n (c .in-Break-out .ensures tt));
+      runs = λ n. rw (p .1, p .2) (stops (c .loop-i .inv) (c .loop-i-test .taken) _ (getD-default _ _ _ _ (c .loop-i-test .taken)) _ n (c .in-Break-out .ensures tt));
     }
 
 pub loop-i-again : need.loop-i-again
@@ -20,11 +20,11 @@ loop-i-again c = sofar-more (c .loop-i .inv) (c .loop-i-test .taken) _ (getD-def
 pub returns-then-is-end : need.returns-then-is-end
 returns-then-is-end c = record {
   beyond = untouched (c .loop-i .inv) (omega arith);
-  runs = λ _ _. ends (c .loop-i .inv) (c .loop-i-test .left) (omega arith) (sym (c .if-is-end .ensures tt));
+  runs = λ _. ends (c .loop-i .inv) (c .loop-i-test .left) (omega arith) (sym (c .if-is-end .ensures tt));
 }
 
 pub returns-else-is-end : need.returns-else-is-end
 returns-else-is-end c = record {
   beyond = untouched (c .loop-i .inv) (omega arith);
-  runs = λ _ _. short (c .loop-i .inv) (c .loop-i-test .left) (sym (c .if-is-end .ensures tt)) ∙ ap Err (sym (c .new-else-is-end .ensures));
+  runs = λ _. short (c .loop-i .inv) (c .loop-i-test .left) (sym (c .if-is-end .ensures tt)) ∙ ap Err (sym (c .new .ensures));
 }
