@@ -1,0 +1,48 @@
+// Question 13: does no use stand old?
+ghost use mathlib.Core.Path.{_≡_};
+ghost use Rattle.std.specs.Results.{Cases};
+ghost use Rattle.script.specs.Faults.{answer};
+ghost use Rattle.script.specs.Stand.{first-refused};
+ghost use Rattle.script.specs.Written.{rows as rows-of};
+ghost use Rattle.reader.specs.Holding.{syntax, rows-in, empty};
+use crate::accepted::Accepted;
+use check::first_refused;
+use reader::script::Script;
+use script::fault::Fault;
+
+// The place of the first use in the text that stands old.
+fn refused_use(script: &Script) -> Option<usize>
+    ensures { λ r. ⌜ r ≡ first-refused (syntax (now (script .entry))) ⌝ }
+{
+    first_refused(script.rows())
+}
+
+impl Accepted {
+    // `main { }`
+    pub fn new() -> Accepted
+        ensures { λ r. ⌜ rows-in (r .script) ≡ rows-of empty ⌝ }
+    {
+        Accepted { script: Script::new() }
+    }
+
+    // Replaces the accepted script by this one, or refuses and leaves it as it was.
+    pub fn accept(&mut self, script: &Script) -> Result<(), Fault>
+        ensures answer { λ r. ⌜ r ≡ answer 13 (first-refused (syntax (now (script .entry)))) ⌝ }
+        ensures after { λ r. ⌜ Cases r (λ _. now (self .exit) .script ≡ now (script .entry)) (λ _. now (self .exit) ≡ now (self .entry)) ⌝ }
+    {
+        match refused_use(script) {
+            Some(place) => Err(Fault::new(13, place)),
+            None => {
+                *self = Accepted { script: *script };
+                Ok(())
+            }
+        }
+    }
+
+    // The script that was accepted last.
+    pub fn script(&self) -> &Script
+        ensures { λ r. ⌜ now r ≡ now (self .entry) .script ⌝ }
+    {
+        &self.script
+    }
+}

@@ -1,0 +1,14 @@
+pub mod Order
+pub mod Mono
+pub mod Inside
+pub mod Pass
+pub mod Passes
+pub mod Growth
+pub mod Exprs
+pub mod Texts
+pub mod Blocks
+pub mod Whole
+pub mod Tables
+pub mod Stacks
+pub mod Clean
+pub mod Cases
