@@ -12,3 +12,4 @@ pub mod Tables
 pub mod Stacks
 pub mod Clean
 pub mod Cases
+pub mod Within

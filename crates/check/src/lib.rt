@@ -1,33 +1,12 @@
-// The freshness check of a read script: where a name declared fresh, or one listed in a together, is
-// used while a reading behind it may be old.
-ghost use mathlib.Core.Path.{_≡_};
-ghost use mathlib.Core.Bool.{true};
-ghost use Prim.Native.Nat.{_≤_};
-ghost use lib.ListN.{length};
-ghost use Rattle.script.specs.Syntax.{Script};
-ghost use Rattle.script.specs.Written.{rows as rows-of};
-ghost use Rattle.script.specs.Stand.{first-refused};
-ghost use Rattle.check.specs.Limits.{shallow, numbered};
-use crate::types::Check;
-use script::row::Row;
-
+// Question 13, the check of a read script: no use of a name declared fresh, and of a name listed in a
+// together, may have a reading behind it that a power failure can make old. A value of `Accepted` is a
+// read script that passed; `accept` is the only way to make one, so what takes an `Accepted` cannot be
+// given a script that was not checked. The laws of the check stand in `laws`.
+pub mod accept;
+pub mod accepted;
 mod braces;
+mod first;
 pub mod laws;
 mod table;
 mod types;
 mod walk;
-
-// The place of the first refused use of a script, by its rows. Each pass but the last raises an entry,
-// and 512 entries of 128 names can rise 131,072 times in all.
-pub fn first_refused(rows: &[Row]) -> Option<usize>
-    ensures { λ r. ⌜ ((s : Script) → now (rows .entry) ≡ rows-of s → length (now (rows .entry)) ≤ 2048 → shallow 0 (now (rows .entry)) ≡ true → numbered (now (rows .entry)) ≡ true → r ≡ first-refused s) ⌝ }
-{
-    let mut check = Check::new();
-    for _turn in 0..131_073u32 {
-        check.pass(rows);
-        if !check.rose {
-            break;
-        }
-    }
-    check.first
-}

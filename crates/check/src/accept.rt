@@ -6,7 +6,7 @@ ghost use Rattle.script.specs.Stand.{first-refused};
 ghost use Rattle.script.specs.Written.{rows as rows-of};
 ghost use Rattle.reader.specs.Holding.{syntax, rows-in, empty};
 use crate::accepted::Accepted;
-use check::first_refused;
+use crate::first::first_refused;
 use reader::script::Script;
 use script::fault::Fault;
 

@@ -2,9 +2,9 @@ use mathlib.Core.Path.{_≡_, sym, ap, _∙_}
 use native.Mathlib.Omega.{arith}
 use lib.ListN.{length, take, length-take}
 use Rattle.reader.specs.Holding.{syntax}
 use Rattle.check.specs.Limits.{shallow, numbered}
-use Rattle.accepted.proofs.Within.{within-16, none-nested, within-128}
-use Rattle.accepted.proofs.accept.refused_use.Needs as need
+use Rattle.check.proofs.Within.{within-16, none-nested, within-128}
+use Rattle.check.proofs.accept.refused_use.Needs as need
 
 pub returns : need.returns
 returns c =

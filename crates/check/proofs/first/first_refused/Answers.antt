@@ -1,6 +1,6 @@
 use Rattle.check.specs.States.{state-of, tables}
 use Rattle.check.proofs.Whole.{going-first, going-again, going-answer, going-ends}
-use Rattle.check.proofs.first_refused.Needs as need
+use Rattle.check.proofs.first.first_refused.Needs as need
 
 pub loop-turn-holds : need.loop-turn-holds
 loop-turn-holds c = going-first (c .args .rows .now) (tables (c .new-check .result .entries)) (c .new-check .ensures)
