@@ -1,17 +1,29 @@
-// The program: `heronnail check FILE` reads a script file and says whether it is taken.
+// The program: `heronnail check FILE` reads a script file and says whether it is accepted. It is a thin
+// shell over the proved library; what it prints is tested.
+ghost use Prim.Native.Nat.{_≤_};
+ghost use lib.ListN.{length};
+ghost use Rattle.std.specs.Results.{Cases};
+
 mod show;
 
-use show::Place;
+use check::accepted::Accepted;
 use reader::script::Script;
+use script::fault::Fault;
+use show::print_refusal;
 use std::env;
 use std::error::AnyError;
 use std::fs;
+use std::io;
 use std::io::Read;
 
-const USAGE: &str = "usage: heronnail check FILE\n       heronnail help";
+const USAGE: &str = "usage: heronnail check FILE   read a drive script and say whether it is accepted
+       heronnail help         print this text";
 
-// The file's first bytes, as many as the buffer holds: what lies past it is not read.
-fn read_start(rt: &LibcRuntime, path: &str, buf: &mut [u8]) -> Result<usize, AnyError> {
+// The bytes of the file, as many as the buffer holds. The buffer has one byte more than a script may
+// have, so that a file of any size is refused without being read whole.
+fn read_start(rt: &LibcRuntime, path: &str, buf: &mut [u8]) -> io::Result<usize>
+    ensures { λ r. ⌜ Cases r (λ n. n ≤ length (now (buf .entry))) (λ _. Unit {0}) ⌝ }
+{
     let mut file = fs::open(rt, path)?;
     let mut len = 0;
     for _ in 0..u64::MAX {
@@ -27,20 +39,65 @@ fn read_start(rt: &LibcRuntime, path: &str, buf: &mut [u8]) -> Result<usize, Any
     Ok(len)
 }
 
+// All thirteen questions.
+fn ask(text: &[u8], accepted: &mut Accepted) -> Result<(), Fault> {
+    let mut script = Script::new();
+    script.read(text)?;
+    accepted.accept(&script)
+}
+
+fn check_file(rt: &LibcRuntime, path: &str) -> Result<(), AnyError> {
+    let mut buf = [0u8; 8193];
+    let len = match read_start(rt, path, &mut buf) {
+        Ok(len) => len,
+        Err(e) => {
+            eprintln!(rt, "heronnail: {path}: cannot be read: {e}")?;
+            return Err("not read".into());
+        }
+    };
+    let text = &buf[0..len];
+    let mut accepted = Accepted::new();
+    if let Err(fault) = ask(text, &mut accepted) {
+        print_refusal(rt, path, text, fault)?;
+        return Err("refused".into());
+    }
+    let s = accepted.script();
+    println!(
+        rt,
+        "{path}: accepted: cells {}, locals {}, steps {}, readings {}, need {}",
+        s.cells(),
+        s.locals(),
+        s.steps(),
+        s.readings(),
+        s.need()
+    )?;
+    Ok(())
+}
+
+fn usage(rt: &LibcRuntime) -> Result<(), AnyError> {
+    eprintln!(rt, "{USAGE}")?;
+    Err("usage".into())
+}
+
+fn run(rt: &LibcRuntime, word: &str, file: Option<String>) -> Result<(), AnyError> {
+    match file {
+        Some(path) => if word == "check" { check_file(rt, path.as_str()) } else { usage(rt) },
+        None => if word == "help" {
+            println!(rt, "{USAGE}")?;
+            Ok(())
+        } else {
+            usage(rt)
+        },
+    }
+}
+
 fn main(rt: LibcRuntime) -> Result<(), AnyError> {
     let mut args = env::args(&rt)?;
-    let _ = args.next();
-    let path = match args.next() {
-        Some(p) => p,
-        None => return Err("usage".into()),
-    };
-    let mut buf = [0u8; 8193];
-    let len = read_start(&rt, path.as_str(), &mut buf)?;
-    let text = &buf[0..len];
-    let mut script = Script::new();
-    match script.read(text) {
-        Ok(()) => println!(rt, "{path}: accepted: cells {}, locals {}, steps {}, readings {}, need {}", script.cells(), script.locals(), script.steps(), script.readings(), script.need())?,
-        Err(f) => println!(rt, "{path}: refused by {} at byte {}", f.number, f.place)?,
+    let _program = args.next();
+    let word = args.next();
+    let file = args.next();
+    match word {
+        Some(w) => run(&rt, w.as_str(), file),
+        None => usage(&rt),
     }
-    Ok(())
 }
