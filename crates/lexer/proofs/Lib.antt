@@ -4,3 +4,4 @@ pub mod First
 pub mod Places
 pub mod Sofar
 pub mod Steps
+pub mod Asked

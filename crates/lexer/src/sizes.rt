@@ -17,7 +17,7 @@ const MAX_NUMBER: u32 = 2147483647;
 const MAX_TOKENS: usize = 2048;
 
 // What the question of a number answers: nothing to refuse, or the fault at the place that it refuses.
-pub fn answered(number: u8, place: Option<usize>) -> Result<(), Fault>
+pub(crate) fn answered(number: u8, place: Option<usize>) -> Result<(), Fault>
     ensures { λ r. ⌜ r ≡ answer number place ⌝ }
 {
     match place {
@@ -27,7 +27,7 @@ pub fn answered(number: u8, place: Option<usize>) -> Result<(), Fault>
 }
 
 // Question 1: at most `MAX_BYTES` bytes.
-pub fn size(text: &[u8]) -> Result<(), Fault>
+pub(crate) fn size(text: &[u8]) -> Result<(), Fault>
     ensures { λ r. ⌜ r ≡ answer 1 (past-bytes (now (text .entry))) ⌝ }
 {
     if text.len() <= MAX_BYTES {
@@ -62,7 +62,7 @@ fn first_too_long(toks: &[Tok]) -> Option<usize>
 
 // Question 3: names of at most `MAX_NAME` bytes, and numbers of at most `MAX_NUMBER`. The reserved
 // words and the marks are short, so that only names and numbers are asked.
-pub fn lengths(toks: &[Tok]) -> Result<(), Fault>
+pub(crate) fn lengths(toks: &[Tok]) -> Result<(), Fault>
     ensures { λ r. ⌜ r ≡ answer 3 (first-where too-long (now (toks .entry))) ⌝ }
 {
     answered(3, first_too_long(toks))

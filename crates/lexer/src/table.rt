@@ -110,7 +110,7 @@ fn record(token: Token<'_>, place: usize) -> Tok
 
 // Writes the records of the text's tokens to `out`, and answers how many there are. A table as long
 // as the text is long enough, since each token has a byte.
-pub fn read_tokens(text: &[u8], out: &mut [Tok]) -> Result<usize, Fault>
+pub(crate) fn read_tokens(text: &[u8], out: &mut [Tok]) -> Result<usize, Fault>
     ensures table { λ r. ⌜ Cases r (λ n. tokens (now (text .entry)) ≡ Ok (take n (now (out .exit)))) (λ f. length (now (text .entry)) ≤ length (now (out .entry)) → tokens (now (text .entry)) ≡ Err f) ⌝ }
     ensures full { λ r. ⌜ Cases r (λ _. Unit {0}) (λ f. (tokens (now (text .entry)) ≡ Err f) ⊎ Full (now (text .entry)) (now (out .exit)) f) ⌝ }
     ensures count { λ r. ⌜ Cases r (λ n. (n ≤ length (now (text .entry))) × (n ≤ length (now (out .entry)))) (λ _. Unit {0}) ⌝ }

@@ -26,3 +26,13 @@ fault n p = record { number = n; place = p; layer = layer-of n }
 abbrev pub answer : ℕ → Option ℕ → Result (Unit {0}) Fault
 answer n None = Ok tt
 answer n (Some p) = Err (fault n p)
+
+-- the question n first: where it says no at a place, that is the fault, else what comes next
+abbrev pub unless : {A : Type 0} → ℕ → Option ℕ → Result A Fault → Result A Fault
+unless n None next = next
+unless n (Some p) next = Err (fault n p)
+
+-- what comes next is asked of what was found
+abbrev pub then : {A B : Type 0} → Result A Fault → (A → Result B Fault) → Result B Fault
+then (Ok a) next = next a
+then (Err f) next = Err f

@@ -6,9 +6,14 @@ use lib.Dec.{leb, ltb}
 use lib.ListN.{length, drop}
 use Rattle.std.specs.declared.option.Option.{Option}
 use Rattle.std.specs.declared.option.Option.the-variants.{Some, None}
+use Rattle.std.specs.declared.result.Result.{Result}
+use Rattle.std.specs.declared.result.Result.the-variants.{Ok}
+use Rattle.script.specs.declared.fault.Fault.{Fault}
 use Rattle.script.specs.declared.token.Sym.{Sym}
 use Rattle.script.specs.declared.token.Sym.the-variants as sym
 use Rattle.script.specs.declared.token.Tok.{Tok}
+use Rattle.script.specs.Faults.{unless, then}
+use Rattle.script.specs.Tokens.{tokens}
 
 -- question 1: a text has at most 8192 bytes; of a longer one, the first byte past them
 abbrev pub past-bytes : List ℕ → Option ℕ
@@ -57,3 +62,7 @@ first-place (t ∷ ts) = Some (t .place)
 
 abbrev pub past-tokens : List Tok → Option ℕ
 past-tokens ts = first-place (drop 2048 ts)
+
+-- questions 1 to 4 in their order: the tokens of the text, or the first fault
+abbrev pub scanned : List ℕ → Result (List Tok) Fault
+scanned text = unless 1 (past-bytes text) (then (tokens text) (λ ts. unless 3 (first-where too-long ts) (unless 4 (past-tokens ts) (Ok ts))))
