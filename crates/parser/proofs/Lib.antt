@@ -9,3 +9,4 @@ pub mod Sound
 pub mod Kept
 pub mod Viable
 pub mod Reading
+pub mod Asked

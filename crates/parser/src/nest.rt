@@ -28,7 +28,7 @@ fn open_after(sym: Sym, open: usize) -> Option<usize>
 
 // Question 5: no more than 16 braces and parentheses are open at once, and each closing one has an
 // opening one before it.
-pub fn nesting(toks: &[Tok]) -> Result<(), Fault>
+pub(crate) fn nesting(toks: &[Tok]) -> Result<(), Fault>
     ensures { λ r. ⌜ r ≡ answer 5 (nesting (now (toks .entry))) ⌝ }
 {
     let mut open = 0;

@@ -112,7 +112,7 @@ fn rows_of(toks: &[Tok], end: usize, out: &mut [Row]) -> Result<(), Fault>
 // Question 6: the tokens are a script, and each is written to `out` with its role; or the fault's place
 // is that of the first token that no script has there, else the text's end. This holds where `out` has
 // room for all the tokens, and where question 5 found nothing, since no more than 16 can be open.
-pub fn parse(toks: &[Tok], end: usize, out: &mut [Row]) -> Result<(), Fault>
+pub(crate) fn parse(toks: &[Tok], end: usize, out: &mut [Row]) -> Result<(), Fault>
     ensures beyond { λ _. ⌜ drop (length (now (toks .entry))) (now (out .exit)) ≡ drop (length (now (toks .entry))) (now (out .entry)) ⌝ }
     ensures reads { λ r. ⌜ (nesting (now (toks .entry)) ≡ None → length (now (toks .entry)) ≤ length (now (out .entry)) → Cases r (λ _. Read (now (toks .entry)) (take (length (now (toks .entry))) (now (out .exit)))) (λ f. (f ≡ fault 6 (f .place)) × Breaks end (now (toks .entry)) (f .place))) ⌝ }
 {

@@ -16,18 +16,19 @@ use Rattle.std.proofs.shelf.Tests.{cases-lt, leb-true}
 use Rattle.script.specs.declared.fault.Fault.{Fault}
 use Rattle.script.specs.declared.row.Row.{Row}
 use Rattle.script.specs.declared.token.Tok.{Tok}
-use Rattle.script.specs.Faults.{fault, answer}
+use Rattle.script.specs.Faults.{fault, answer, unless, then}
 use Rattle.script.specs.Tokens.{blank, token-of, after, begin, lex, tokens}
-use Rattle.script.specs.Sizes.{past-bytes, first-where, too-long, first-place, past-tokens}
+use Rattle.script.specs.Sizes.{past-bytes, first-where, too-long, first-place, past-tokens, scanned}
 use Rattle.script.specs.Nesting.{nesting}
 use Rattle.script.specs.Syntax.{Script}
 use Rattle.script.specs.Written.{token, rows, Writes, Breaks}
 use Rattle.script.specs.Decode.{decode}
-use Rattle.std.proofs.shelf.Lists.{take-all}
+use Rattle.std.proofs.shelf.Lists.{take-all, length-map}
 use Rattle.script.specs.Roles.{declares-cell, those, first-row}
 use Rattle.script.specs.Names.{names, crowded, twice, undeclared, into-cell, out-of-range, no-row}
 use Rattle.reader.proofs.Declared.{few-names, few-cells, few-locals, cells-rows, locals-rows}
 use Rattle.script.specs.Questions.{Question, bytes-few, bytes-known, tokens-short, tokens-few, nested-within, written, names-few, names-once, names-declared, readings-local, numbers-in-range, bounded, number-of, Reads, No, Passes, First-no}
+use Rattle.parser.specs.Reading.{Parses, Unparsed}
 use Rattle.parser.proofs.Reading.{one-script}
 use Rattle.parser.proofs.Decoded.{decoded}
 use Rattle.script.specs.Roles.{declares-local}
@@ -65,10 +66,6 @@ ok-err a f r e g = absurd (let z : _≡_ {A = ℕ} 0 1 = cc in omega arith)
 
 ok-same : {A : Type 0} (a b : A) (r : Result A Fault) → r ≡ Ok a → r ≡ Ok b → a ≡ b
 ok-same a b r e g = cc
-
--- a part from the start
-pub whole-part : (P : ℕ → Type 0) (n : ℕ) → P (n - 0) → P n
-whole-part P n h = subst P (omega arith) h
 
 -- ---- the order of the questions
 
@@ -170,17 +167,54 @@ module _ (text : List ℕ) where
           pub pass-4 : Passes 5 text
           pass-4 = passes-more text tokens-few pass-3 (λ p h. none-some (past-tokens ts) p (taken 4 _ e₄) (ap past-tokens (ok-same ts (h .0) (tokens text) are (h .1)) ∙ h .2))
 
-          few : length ts ≤ 2048
-          few = let n = by (drop 2048 ts) (taken 4 _ e₄) in let l = length-drop 2048 ts in omega (arith, n, l)
-            where
-              by : (us : List Tok) → first-place us ≡ None → length us ≡ 0
-              by [] h = refl
-              by (u ∷ us) h = absurd (let z : _≡_ {A = ℕ} 0 1 = cc in omega arith)
+          pub all-scanned : Scanned text ts
+          all-scanned = record { are = are; room = taken 4 _ e₄; pass = pass-4 }
 
-          pub scanned : Scanned text ts
-          scanned = record { are = are; few = few; pass = pass-4 }
+-- the same from the answer of questions 1 to 4 together
+module _ (text : List ℕ) where
+  no′ : (n p : ℕ) (o : Option ℕ) (f : Fault) → o ≡ Some p → _≡_ {A = Result (List Tok) Fault} (Err (fault n p)) (Err f) → Err f ≡ answer n o
+  no′ n p o f e g = let h : f ≡ fault n p = cc in ap Err h ∙ ap (answer n) (sym e)
+
+  yes′ : (n : ℕ) (o : Option ℕ) → o ≡ None → Ok tt ≡ answer n o
+  yes′ n o e = ap (answer n) (sym e)
+
+  abbrev Told : Result (List Tok) Fault → Type 0
+  Told (Ok ts) = Scanned text ts
+  Told (Err f) = First-no text f
+
+  abbrev Rest : List Tok → Result (List Tok) Fault
+  Rest us = unless 3 (first-where too-long us) (unless 4 (past-tokens us) (Ok us))
+
+  told-4 : Ok tt ≡ answer 1 (past-bytes text) → (us : List Tok) → tokens text ≡ Ok us → Ok tt ≡ answer 3 (first-where too-long us) → (o : Option ℕ) → past-tokens us ≡ o → Told (unless 4 o (Ok us))
+  told-4 e₁ us are e₃ None e = all-scanned text e₁ us are e₃ (yes′ 4 (past-tokens us) e)
+  told-4 e₁ us are e₃ (Some p) e = stop-4 text e₁ us are e₃ (fault 4 p) (no′ 4 p (past-tokens us) (fault 4 p) e refl)
+
+  told-3 : Ok tt ≡ answer 1 (past-bytes text) → (us : List Tok) → tokens text ≡ Ok us → (o : Option ℕ) → first-where too-long us ≡ o → Told (unless 3 o (unless 4 (past-tokens us) (Ok us)))
+  told-3 e₁ us are None e = told-4 e₁ us are (yes′ 3 (first-where too-long us) e) (past-tokens us) refl
+  told-3 e₁ us are (Some p) e = stop-3 text e₁ us are (fault 3 p) (no′ 3 p (first-where too-long us) (fault 3 p) e refl)
+
+  told-2 : Ok tt ≡ answer 1 (past-bytes text) → (r : Result (List Tok) Fault) → tokens text ≡ r → Told (then r Rest)
+  told-2 e₁ (Ok us) e = told-3 e₁ us e (first-where too-long us) refl
+  told-2 e₁ (Err f) e = stop-2 text e₁ f e
+
+  told-1 : (o : Option ℕ) → past-bytes text ≡ o → Told (unless 1 o (then (tokens text) Rest))
+  told-1 None e = told-2 (yes′ 1 (past-bytes text) e) (tokens text) refl
+  told-1 (Some p) e = stop-1 text (fault 1 p) (no′ 1 p (past-bytes text) (fault 1 p) e refl)
+
+  pub is-scanned : (ts : List Tok) → scanned text ≡ Ok ts → Scanned text ts
+  is-scanned ts e = subst Told e (told-1 (past-bytes text) refl)
+
+  pub not-scanned : (f : Fault) → scanned text ≡ Err f → First-no text f
+  not-scanned f e = subst Told e (told-1 (past-bytes text) refl)
 
 -- ---- 5 and 6
+
+few-tokens : (ts : List Tok) → past-tokens ts ≡ None → length ts ≤ 2048
+few-tokens ts e = let n = by (drop 2048 ts) e in let l = length-drop 2048 ts in omega (arith, n, l)
+  where
+    by : (us : List Tok) → first-place us ≡ None → length us ≡ 0
+    by [] h = refl
+    by (u ∷ us) h = absurd (let z : _≡_ {A = ℕ} 0 1 = cc in omega arith)
 
 module _ (text : List ℕ) (ts : List Tok) (so : Scanned text ts) where
   pub stop-5 : (f : Fault) → Err f ≡ answer 5 (nesting ts) → First-no text f
@@ -198,9 +232,23 @@ module _ (text : List ℕ) (ts : List Tok) (so : Scanned text ts) where
       are = so .are ∙ ap Ok toks;
       whole = whole;
       nested = ap nesting (sym toks) ∙ taken 5 _ e₅;
-      few = omega (arith, long, so .few);
+      few = omega (arith, long, few-tokens ts (so .room));
       pass = passes-more text written pass-5 (λ p h. h .2 .0 (decode rs) (ok-same (h .0) ts (tokens text) (h .1) (so .are) ∙ toks ∙ ap (map token) whole));
     }
+
+-- the same from the answer of questions 4 to 6 together
+module _ (text : List ℕ) (ts : List Tok) (so : Scanned text ts) where
+  pub not-parsed : (f : Fault) → Unparsed (length text) ts f → First-no text f
+  not-parsed f u = ⊎-elim
+      (λ h. none-some (past-tokens ts) (f .place) (so .room) (h .0))
+      (λ h. ⊎-elim
+        (λ g. stop-5 text ts so f (ap Err (g .1) ∙ ap (answer 5) (sym (g .0))))
+        (λ g. stop-6 text ts so (ap (answer 5) (sym (g .0))) f (g .1, g .2))
+        (h .1))
+      u
+
+  pub is-parsed : (rs : List Row) → Parses ts rs → Parsed text rs
+  is-parsed rs p = parsed text ts so (ap (answer 5) (sym (p .1))) rs (p .2 .0) (p .2 .1) (sym (length-map rs token) ∙ ap length (sym (p .2 .1)))
 
 -- ---- 7 to 11
 

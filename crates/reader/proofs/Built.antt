@@ -9,7 +9,6 @@ use Rattle.std.specs.Options.{isSome}
 use Rattle.std.specs.declared.option.Option.{Option}
 use Rattle.std.specs.declared.option.Option.the-variants.{Some, None}
 use Rattle.std.specs.declared.result.Result.the-variants.{Ok}
-use Rattle.std.proofs.shelf.Lists.{take-map}
 use Rattle.script.specs.declared.row.Row.{Row}
 use Rattle.script.specs.declared.row.Role.{Role}
 use Rattle.script.specs.declared.token.Sym.{Sym}
@@ -139,7 +138,3 @@ module _ (text : List ℕ) (rs found : List Row) (a b c d : ℕ) (so : Parsed te
 
     pub list-holds : Holds text l
     list-holds = subst (Holds text) (sym e) given-holds
-
--- what a table of so many rows holds, once each row has its number
-pub numbered-part : (text : List ℕ) (found table table′ : List Row) (n : ℕ) → table′ ≡ map (numbered text found) table → take n table′ ≡ map (numbered text found) (take n table)
-numbered-part text found table table′ n e = ap (take n) e ∙ take-map (numbered text found) n table

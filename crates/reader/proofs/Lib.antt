@@ -1,6 +1,5 @@
 pub mod Listing
 pub mod Loops
-pub mod Mapped
 pub mod Caps
 pub mod Nests
 pub mod Counts

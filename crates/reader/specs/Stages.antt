@@ -9,6 +9,7 @@ use Rattle.std.specs.declared.result.Result.the-variants.{Ok}
 use Rattle.script.specs.declared.row.Row.{Row}
 use Rattle.script.specs.declared.token.Tok.{Tok}
 use Rattle.script.specs.Tokens.{tokens}
+use Rattle.script.specs.Sizes.{past-tokens}
 use Rattle.script.specs.Nesting.{nesting}
 use Rattle.script.specs.Written.{token, rows}
 use Rattle.script.specs.Decode.{decode}
@@ -20,7 +21,7 @@ use Rattle.script.specs.Questions.{Passes}
 -- questions 1 to 4 have nothing against the text, whose tokens are these
 pub record Scanned (text : List ℕ) (ts : List Tok) : Type 0 where
   pub are : tokens text ≡ Ok ts
-  pub few : length ts ≤ 2048
+  pub room : past-tokens ts ≡ None
   pub pass : Passes 5 text
 
 -- nor have 5 and 6: the tokens are those of the script that the rows are

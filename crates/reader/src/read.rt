@@ -12,36 +12,31 @@ use crate::names::ask::number_all;
 use crate::script::Script;
 use crate::stages::Found;
 use crate::stages::ask_script;
-use crate::stages::read_rows;
-use crate::stages::scan;
+use lexer::tokens::Tokens;
+use parser::rows::Rows;
 use script::fault::Fault;
 use script::row::Role;
 use script::row::Row;
-use script::token::Sym;
-use script::token::Tok;
 
-const NO_TOKEN: Tok = Tok { sym: Sym::Name, place: 0, len: 0, value: 0 };
 const NO_ROW: Row = Row { role: Role::MainWord, place: 0, len: 0, value: 0 };
 
 // Questions 7 to 12 on the rows read from the text, and the script that they are.
-fn build(text: &[u8], mut rows: [Row; 2048], len: usize) -> Result<Script, Fault>
-    requires { ⌜ len ≤ 2048 ⌝ ∗ ⌜ Parsed (now text) (take len rows) ⌝ }
+fn build(text: &[u8], rows: &[Row]) -> Result<Script, Fault>
+    requires { ⌜ Parsed (now text) (now rows) ⌝ }
     ensures { λ r. ⌜ Cases r (λ s. Holds (now (text .entry)) (rows-in s)) (λ f. First-no (now (text .entry)) f) ⌝ }
 {
-    let Found { names, cells, locals, total } = ask_script(text, &rows[0..len])?;
-    number_all(text, &names, &mut rows);
-    Ok(Script { rows, len, cells, locals, steps: total.steps, readings: total.readings })
+    let Found { names, cells, locals, total } = ask_script(text, rows)?;
+    let table = number_all(text, &names, rows);
+    Ok(Script { rows: table, len: rows.len(), cells, locals, steps: total.steps, readings: total.readings })
 }
 
 // All questions in their order.
 fn read_text(text: &[u8]) -> Result<Script, Fault>
     ensures { λ r. ⌜ Cases r (λ s. Holds (now (text .entry)) (rows-in s)) (λ f. First-no (now (text .entry)) f) ⌝ }
 {
-    let mut toks = [NO_TOKEN; 8192];
-    let n = scan(text, &mut toks)?;
-    let mut rows = [NO_ROW; 2048];
-    read_rows(text, &toks[0..n], &mut rows)?;
-    build(text, rows, n)
+    let tokens = Tokens::read(text)?;
+    let rows = Rows::parse(tokens.all(), text.len())?;
+    build(text, rows.all())
 }
 
 impl Script {

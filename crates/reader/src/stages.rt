@@ -1,4 +1,4 @@
-// The questions of reading in their order, each put to the whole input before the next.
+// Questions 7 to 12 in their order, each put to all rows before the next.
 ghost use mathlib.Core.Path.{_≡_};
 ghost use Prim.Native.Nat.{_≤_};
 ghost use lib.ListN.{length, take};
@@ -6,7 +6,7 @@ ghost use Rattle.std.specs.Results.{Cases};
 ghost use Rattle.script.specs.Names.{names};
 ghost use Rattle.script.specs.Roles.{declares-cell, those};
 ghost use Rattle.script.specs.Questions.{First-no};
-ghost use Rattle.reader.specs.Stages.{Scanned, Parsed, Named, Counted, Unbounded, Bounded};
+ghost use Rattle.reader.specs.Stages.{Parsed, Named, Counted, Unbounded, Bounded};
 ghost use mathlib.Core.List.{map};
 ghost use Rattle.std.specs.declared.option.Option.the-variants.{None};
 ghost use Rattle.script.specs.Faults.{fault};
@@ -18,34 +18,8 @@ use crate::names::ask;
 use crate::names::table::Kind;
 use crate::names::table::Names;
 use crate::tally::count_all;
-use lexer::sizes;
-use lexer::table::read_tokens;
-use parser::nest::nesting;
-use parser::read::parse;
 use script::fault::Fault;
 use script::row::Row;
-use script::token::Tok;
-
-// Questions 1 to 4: the tokens of the text. A table of 8192 is long enough for them.
-pub(crate) fn scan(text: &[u8], out: &mut [Tok]) -> Result<usize, Fault>
-    requires { ⌜ length (now out) ≡ 8192 ⌝ }
-    ensures { λ r. ⌜ Cases r (λ n. Scanned (now (text .entry)) (take n (now (out .exit))) × (n ≤ 2048)) (λ f. First-no (now (text .entry)) f) ⌝ }
-{
-    sizes::size(text)?;
-    let n = read_tokens(text, out)?;
-    sizes::lengths(&out[0..n])?;
-    sizes::count(&out[0..n])?;
-    Ok(n)
-}
-
-// Questions 5 and 6: the tokens with their roles.
-pub(crate) fn read_rows(text: &[u8], toks: &[Tok], out: &mut [Row]) -> Result<(), Fault>
-    requires { ⌜ length (now out) ≡ 2048 ⌝ ∗ ⌜ Scanned (now text) (now toks) ⌝ }
-    ensures { λ r. ⌜ Cases r (λ _. Parsed (now (text .entry)) (take (length (now (toks .entry))) (now (out .exit)))) (λ f. First-no (now (text .entry)) f) ⌝ }
-{
-    nesting(toks)?;
-    parse(toks, text.len(), out)
-}
 
 // The declared names, cells first. Past 128 there is no room, and question 7 has said no.
 pub(crate) fn names_of(rows: &[Row]) -> Names

@@ -165,11 +165,14 @@ fn number_one(text: &[u8], names: &Names, row: Row) -> Row
     }
 }
 
-// Each name gets its number.
-pub(crate) fn number_all(text: &[u8], names: &Names, rows: &mut [Row])
-    ensures { λ _. ⌜ now (rows .exit) ≡ map (numbered (now (text .entry)) (take (now (names .entry) .len) (now (names .entry) .rows))) (now (rows .entry)) ⌝ }
+// The rows with each name's number, in a table of their own.
+pub(crate) fn number_all(text: &[u8], names: &Names, rows: &[Row]) -> [Row; 2048]
+    requires { ⌜ length (now rows) ≤ 2048 ⌝ }
+    ensures { λ r. ⌜ take (length (now (rows .entry))) r ≡ map (numbered (now (text .entry)) (take (now (names .entry) .len) (now (names .entry) .rows))) (now (rows .entry)) ⌝ }
 {
-    for row in rows.iter_mut() {
-        *row = number_one(text, names, *row);
+    let mut table = [Row { role: Role::MainWord, place: 0, len: 0, value: 0 }; 2048];
+    for (i, row) in rows.iter().enumerate() {
+        table[i] = number_one(text, names, *row);
     }
+    table
 }
