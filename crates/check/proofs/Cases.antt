@@ -20,10 +20,10 @@ turned = record {
   word = at 23 0;
   open′ = at 28 0;
   main = loop (at 30 0) (at 37 2) (at 39 0)
-    (assign (at 41 0) (at 43 0) (only (at 45 1)) (at 46 0)
-    (assign (at 48 2) (at 50 0) (only (at 52 0)) (at 53 0)
-    (reading (at 55 1) (at 57 0) (at 59 0) (at 62 0) (at 63 0) done)))
-    (at 65 0) done;
+      (assign (at 41 0) (at 43 0) (only (at 45 1)) (at 46 0)
+      (assign (at 48 2) (at 50 0) (only (at 52 0)) (at 53 0)
+      (reading (at 55 1) (at 57 0) (at 59 0) (at 62 0) (at 63 0) done)))
+      (at 65 0) done;
   close = at 67 0;
 }
 

@@ -13,7 +13,6 @@ use Rattle.script.specs.declared.standing.Standing.the-variants.{Clean}
 use Rattle.script.specs.Syntax.{Leaf, reads, Code, nothing, put, read, fork, turns, region, uses}
 use Rattle.script.specs.Stand.{Table, higher, both, highest, of-expr, raised, older, aged, assigned, climb, walk, is-old, olds, uses-in, walks, refused}
 use Rattle.check.specs.Apart.{All-apart, some-apart, Apart}
-use Rattle.check.specs.Laws.{Apart-accepted}
 use Rattle.check.proofs.Order.{length-both, climb-none, climb-more, walks-none, walks-more}
 use Rattle.check.proofs.Tables.{getD-both}
 use Rattle.check.proofs.Inside.{none-of}
@@ -103,5 +102,5 @@ module _ (apart : ℕ → Bool) where
   pure-clean : (n : ℕ) → Pure (replicate n Clean)
   pure-clean n y a = ⊎-elim (λ lt. getD-replicate n y Clean Clean lt) (λ le. getD-past (replicate n Clean) y Clean (omega (arith, length-replicate n Clean, le))) (cases-lt y n)
 
-pub apart-accepted : Apart-accepted
+pub apart-accepted : (apart marked : ℕ → Bool) (k : Code) → Apart apart marked k → refused marked false k (replicate 128 Clean) ≡ []
 apart-accepted apart marked k h = pure-refused apart marked k false (replicate 128 Clean) h (pure-clean apart 128)

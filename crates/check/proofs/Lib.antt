@@ -13,3 +13,4 @@ pub mod Stacks
 pub mod Clean
 pub mod Cases
 pub mod Within
+pub mod Accepting

@@ -1,12 +1,12 @@
--- What the check answers for, law by law. Assumes nothing.
+-- The laws of the check, which `accept` answers for. Assumes nothing.
 use mathlib.Core.Path.{_≡_}
-use mathlib.Core.Bool.{Bool, false}
-use mathlib.Core.List.{[]}
+use mathlib.Core.Bool.{Bool}
 use Prim.Native.Nat.{ℕ}
-use lib.ListN.{replicate}
-use Rattle.script.specs.declared.standing.Standing.the-variants.{Clean}
-use Rattle.script.specs.Syntax.{Code, nothing, region}
-use Rattle.script.specs.Stand.{Table, settle, walk, refused, least}
+use Rattle.std.specs.declared.result.Result.{Result}
+use Rattle.std.specs.declared.result.Result.the-variants.{Ok}
+use Rattle.script.specs.declared.fault.Fault.{Fault}
+use Rattle.script.specs.Syntax.{Code, nothing, region, Script, code}
+use Rattle.script.specs.Stand.{Table, settle, walk, refused, least, fresh-in}
 use Rattle.check.specs.Order.{Le}
 use Rattle.check.specs.Last.{refused-last}
 use Rattle.check.specs.Apart.{Apart}
@@ -23,15 +23,15 @@ Settles-least =
     × Le (walk inside b (settle (walk inside b) t)) (settle (walk inside b) t)
     × ((v : Table) → Le t v → Le (walk inside b v) v → Le (settle (walk inside b) t) v)
 
--- a script whose whole main is one region is always accepted
-abbrev pub One-region-accepted : Type 0
-One-region-accepted = (marked : ℕ → Bool) (b : Code) → refused marked false (region b nothing) (replicate 128 Clean) ≡ []
-
 -- the first refused use over all walks is the first of the last walks
 abbrev pub Last-walks-tell : Type 0
 Last-walks-tell = (marked : ℕ → Bool) (inside : Bool) (k : Code) (t : Table) → least (refused marked inside k t) ≡ least (refused-last marked inside k t)
 
+-- a script whose whole main is one region is always accepted
+abbrev pub One-region-accepted : Script → Result (Unit {0}) Fault → Type 0
+One-region-accepted s r = (b : Code) → code (s .main) ≡ region b nothing → r ≡ Ok tt
+
 -- a script whose uses have no reading behind them is accepted: where some names are apart from all readings,
--- and every use is of one of them, nothing is refused
-abbrev pub Apart-accepted : Type 0
-Apart-accepted = (apart marked : ℕ → Bool) (k : Code) → Apart apart marked k → refused marked false k (replicate 128 Clean) ≡ []
+-- and every use is of one of them
+abbrev pub Apart-accepted : Script → Result (Unit {0}) Fault → Type 0
+Apart-accepted s r = (apart : ℕ → Bool) → Apart apart (fresh-in (s .decls)) (code (s .main)) → r ≡ Ok tt

@@ -5,6 +5,7 @@ ghost use Rattle.script.specs.Faults.{answer};
 ghost use Rattle.script.specs.Stand.{first-refused};
 ghost use Rattle.script.specs.Written.{rows as rows-of};
 ghost use Rattle.reader.specs.Holding.{syntax, rows-in, empty};
+ghost use Rattle.check.specs.Laws.{One-region-accepted, Apart-accepted, Never-lowers, Settles-least, Last-walks-tell};
 use crate::accepted::Accepted;
 use crate::first::first_refused;
 use reader::script::Script;
@@ -28,6 +29,11 @@ impl Accepted {
     // Replaces the accepted script by this one, or refuses and leaves it as it was.
     pub fn accept(&mut self, script: &Script) -> Result<(), Fault>
         ensures answer { λ r. ⌜ r ≡ answer 13 (first-refused (syntax (now (script .entry)))) ⌝ }
+        ensures one_region { λ r. ⌜ One-region-accepted (syntax (now (script .entry))) r ⌝ }
+        ensures apart { λ r. ⌜ Apart-accepted (syntax (now (script .entry))) r ⌝ }
+        ensures never_lowers { λ _. ⌜ Never-lowers ⌝ }
+        ensures settles_least { λ _. ⌜ Settles-least ⌝ }
+        ensures last_walks { λ _. ⌜ Last-walks-tell ⌝ }
         ensures after { λ r. ⌜ Cases r (λ _. now (self .exit) .script ≡ now (script .entry)) (λ _. now (self .exit) ≡ now (self .entry)) ⌝ }
     {
         match refused_use(script) {

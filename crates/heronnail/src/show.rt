@@ -41,7 +41,7 @@ fn sentence(number: u8, at_end: bool) -> &'static str {
     }
 }
 
-pub fn print_refusal(rt: &LibcRuntime, path: &str, text: &[u8], fault: Fault) -> Result<(), AnyError> {
+pub(crate) fn print_refusal(rt: &LibcRuntime, path: &str, text: &[u8], fault: Fault) -> Result<(), AnyError> {
     let heap = rt.alloc();
     let at = fault.place.min(text.len());
     let spot = locate(text, at);

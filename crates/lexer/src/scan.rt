@@ -60,7 +60,7 @@ fn run_end(text: &[u8], from: usize, class: Class) -> usize
 }
 
 // What a mark of one byte is, if the byte is one.
-pub fn mark_sym(b: u8) -> Option<Sym>
+pub(crate) fn mark_sym(b: u8) -> Option<Sym>
     ensures { λ r. ⌜ r ≡ mark b ⌝ }
 {
     match b as char {

@@ -112,7 +112,7 @@ fn more_rule(ends: Ends, compared: bool, sym: Sym) -> Move
 }
 
 // The move of a token, by what is wanted.
-pub fn rule_of(want: Want, sym: Sym) -> Move
+pub(crate) fn rule_of(want: Want, sym: Sym) -> Move
     ensures { λ r. ⌜ r ≡ rule want sym ⌝ }
 {
     match (want, sym) {
@@ -149,7 +149,7 @@ pub fn rule_of(want: Want, sym: Sym) -> Move
 }
 
 // What is wanted once a mark has closed what is open, which must be of its own kind.
-pub fn closed_to(mark: Mark, frame: Frame) -> Option<Want>
+pub(crate) fn closed_to(mark: Mark, frame: Frame) -> Option<Want>
     ensures { λ r. ⌜ r ≡ closed mark frame ⌝ }
 {
     match (mark, frame) {
@@ -162,7 +162,7 @@ pub fn closed_to(mark: Mark, frame: Frame) -> Option<Want>
 }
 
 // The role of the closing mark: that of an if's first block tells whether an else follows.
-pub fn closing_of(frame: Frame, other: bool) -> Role
+pub(crate) fn closing_of(frame: Frame, other: bool) -> Role
     ensures { λ r. ⌜ r ≡ closing frame other ⌝ }
 {
     match frame {
@@ -182,7 +182,7 @@ pub fn closing_of(frame: Frame, other: bool) -> Role
 }
 
 // Whether the script is whole.
-pub fn is_end(want: Want) -> bool
+pub(crate) fn is_end(want: Want) -> bool
     ensures { λ r. ⌜ r ≡ isEnd want ⌝ }
 {
     matches!(want, Want::End)
