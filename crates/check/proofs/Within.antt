@@ -149,8 +149,9 @@ within-16 n (r ∷ rs) h = by (kind (r .role)) (λ m. within-16 m rs) (ap (λ o.
   where
     more : ℕ → Option ℕ
     more m = nesting-from m (map token rs)
+
     by : (k : Kind) → ((m : ℕ) → nesting-from m (map token rs) ≡ None → shallow m rs ≡ true) → or-stop (r .place) (after k n) (λ m. nesting-from m (map token rs)) ≡ None
-       → elim k [ opens ↦ ltb n 16 && shallow (suc n) rs | closes ↦ shallow (pred n) rs | names ↦ shallow n rs | other ↦ shallow n rs ] ≡ true
+        → elim k [ opens ↦ ltb n 16 && shallow (suc n) rs | closes ↦ shallow (pred n) rs | names ↦ shallow n rs | other ↦ shallow n rs ] ≡ true
     by opens ih g = up (leb 16 n) refl g
       where
         up : (b : Bool) → leb 16 n ≡ b → or-stop (r .place) (cond b None (Some (n + 1))) (λ m. nesting-from m (map token rs)) ≡ None → (ltb n 16 && shallow (suc n) rs) ≡ true
@@ -177,7 +178,7 @@ within-128 [] h = refl
 within-128 (r ∷ rs) h = by (kind (r .role)) (declares (r .role)) refl (names-declared (r .role)) (within-128 rs) h
   where
     by : (k : Kind) (d : Bool) → declares (r .role) ≡ d → (is-names k ≡ true → declares (r .role) ≡ true) → (all-numbered rs ≡ true → numbered rs ≡ true) → cond d (ltb (r .value) 128 && all-numbered rs) (all-numbered rs) ≡ true
-       → elim k [ opens ↦ numbered rs | closes ↦ numbered rs | names ↦ ltb (r .value) 128 && numbered rs | other ↦ numbered rs ] ≡ true
+        → elim k [ opens ↦ numbered rs | closes ↦ numbered rs | names ↦ ltb (r .value) 128 && numbered rs | other ↦ numbered rs ] ≡ true
     by opens true e f ih g = ih (and-right (ltb (r .value) 128) (all-numbered rs) g)
     by opens false e f ih g = ih g
     by closes true e f ih g = ih (and-right (ltb (r .value) 128) (all-numbered rs) g)

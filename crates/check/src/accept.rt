@@ -23,12 +23,14 @@ impl Accepted {
     pub fn new() -> Accepted
         ensures { λ r. ⌜ rows-in (r .script) ≡ rows-of empty ⌝ }
     {
-        Accepted { script: Script::new() }
+        Accepted {
+            script: Script::new(),
+        }
     }
 
     // Replaces the accepted script by this one, or refuses and leaves it as it was.
     pub fn accept(&mut self, script: &Script) -> Result<(), Fault>
-        ensures answer { λ r. ⌜ r ≡ answer 13 (first-refused (syntax (now (script .entry)))) ⌝ }
+        ensures verdict { λ r. ⌜ r ≡ answer 13 (first-refused (syntax (now (script .entry)))) ⌝ }
         ensures one_region { λ r. ⌜ One-region-accepted (syntax (now (script .entry))) r ⌝ }
         ensures apart { λ r. ⌜ Apart-accepted (syntax (now (script .entry))) r ⌝ }
         ensures never_lowers { λ _. ⌜ Never-lowers ⌝ }

@@ -10,7 +10,6 @@ ghost use Rattle.check.specs.Limits.{shallow, numbered};
 use crate::types::Check;
 use script::row::Row;
 
-
 // The place of the first refused use of a script, by its rows. Each pass but the last raises an entry,
 // and 512 entries of 128 names can rise 131,072 times in all.
 pub(crate) fn first_refused(rows: &[Row]) -> Option<usize>

@@ -16,7 +16,8 @@ use std::fs;
 use std::io;
 use std::io::Read;
 
-const USAGE: &str = "usage: heronnail check FILE   read a drive script and say whether it is accepted
+const USAGE: &str =
+    "usage: heronnail check FILE   read a drive script and say whether it is accepted
        heronnail help         print this text";
 
 // The bytes of the file, as many as the buffer holds. The buffer has one byte more than a script may
@@ -81,7 +82,11 @@ fn usage(rt: &LibcRuntime) -> Result<(), AnyError> {
 
 fn run(rt: &LibcRuntime, word: &str, file: Option<String>) -> Result<(), AnyError> {
     match file {
-        Some(path) => if word == "check" { check_file(rt, path.as_str()) } else { usage(rt) },
+        Some(path) => if word == "check" {
+            check_file(rt, path.as_str())
+        } else {
+            usage(rt)
+        },
         None => if word == "help" {
             println!(rt, "{USAGE}")?;
             Ok(())

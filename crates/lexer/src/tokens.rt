@@ -13,7 +13,12 @@ use script::fault::Fault;
 use script::token::Sym;
 use script::token::Tok;
 
-const NO_TOKEN: Tok = Tok { sym: Sym::Name, place: 0, len: 0, value: 0 };
+const NO_TOKEN: Tok = Tok {
+    sym: Sym::Name,
+    place: 0,
+    len: 0,
+    value: 0,
+};
 
 // A text has at most 8192 bytes, and each token a byte or more, so that all tokens find room; those of
 // a text that question 4 lets through are at most 2048.

@@ -12,7 +12,12 @@ use script::row::Role;
 use script::row::Row;
 use script::token::Tok;
 
-const NO_ROW: Row = Row { role: Role::MainWord, place: 0, len: 0, value: 0 };
+const NO_ROW: Row = Row {
+    role: Role::MainWord,
+    place: 0,
+    len: 0,
+    value: 0,
+};
 
 // Each token with its role. Question 4, asked again, says that there is room for all of them.
 #[derive(Drop)]
@@ -32,7 +37,10 @@ impl Rows {
         nesting(toks)?;
         let mut table = [NO_ROW; 2048];
         parse(toks, end, &mut table)?;
-        Ok(Rows { table, len: toks.len() })
+        Ok(Rows {
+            table,
+            len: toks.len(),
+        })
     }
 
     pub fn all(&self) -> &[Row]

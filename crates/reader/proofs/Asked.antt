@@ -27,7 +27,7 @@ use Rattle.std.proofs.shelf.Lists.{take-all, length-map}
 use Rattle.script.specs.Roles.{declares-cell, those, first-row}
 use Rattle.script.specs.Names.{names, crowded, twice, undeclared, into-cell, out-of-range, no-row}
 use Rattle.reader.proofs.Declared.{few-names, few-cells, few-locals, cells-rows, locals-rows}
-use Rattle.script.specs.Questions.{Question, bytes-few, bytes-known, tokens-short, tokens-few, nested-within, written, names-few, names-once, names-declared, readings-local, numbers-in-range, bounded, number-of, Reads, No, Passes, First-no}
+use Rattle.script.specs.Questions.{Question, bytes-few, bytes-known, tokens-short, tokens-few, nested-within, written, names-few, names-once, names-declared, readings-local, numbers-in-range, bounded, number-of, Reads, No, Passes, First-no, One-syntax}
 use Rattle.parser.specs.Reading.{Parses, Unparsed}
 use Rattle.parser.proofs.Reading.{one-script}
 use Rattle.parser.proofs.Decoded.{decoded}
@@ -122,6 +122,7 @@ lex-fault zero p (b ∷ bs) f e = by (blank b) (token-of p b bs) (λ k. lex-faul
     past : (t : Tok) (r : Result (List Tok) Fault) → after (t ∷ []) r ≡ Err f → r ≡ Err f
     past t (Ok ts) h = absurd (let z : _≡_ {A = ℕ} 0 1 = cc in omega arith)
     past t (Err g) h = h
+
     by : (c : Bool) (o : Option Tok) → ((k : ℕ) (g : Fault) → lex k (p + 1) bs ≡ Err g → g ≡ fault 2 (g .place)) → cond c (lex 0 (p + 1) bs) (begin p o (λ n. lex n (p + 1) bs)) ≡ Err f → f ≡ fault 2 (f .place)
     by true o ih h = ih 0 f h
     by false None ih h = let g : fault 2 p ≡ f = cc in sym g ∙ ap (λ (x : Fault). fault 2 (x .place)) g
@@ -207,6 +208,11 @@ module _ (text : List ℕ) where
   pub not-scanned : (f : Fault) → scanned text ≡ Err f → First-no text f
   not-scanned f e = subst Told e (told-1 (past-bytes text) refl)
 
+-- ---- one syntax
+
+pub one-syntax : (text : List ℕ) → One-syntax text
+one-syntax text s s′ p q = one-script (map token (rows s)) s s′ refl (ok-same _ _ (tokens text) p q)
+
 -- ---- 5 and 6
 
 few-tokens : (ts : List Tok) → past-tokens ts ≡ None → length ts ≤ 2048
@@ -242,9 +248,9 @@ module _ (text : List ℕ) (ts : List Tok) (so : Scanned text ts) where
   not-parsed f u = ⊎-elim
       (λ h. none-some (past-tokens ts) (f .place) (so .room) (h .0))
       (λ h. ⊎-elim
-        (λ g. stop-5 text ts so f (ap Err (g .1) ∙ ap (answer 5) (sym (g .0))))
-        (λ g. stop-6 text ts so (ap (answer 5) (sym (g .0))) f (g .1, g .2))
-        (h .1))
+      (λ g. stop-5 text ts so f (ap Err (g .1) ∙ ap (answer 5) (sym (g .0))))
+      (λ g. stop-6 text ts so (ap (answer 5) (sym (g .0))) f (g .1, g .2))
+      (h .1))
       u
 
   pub is-parsed : (rs : List Row) → Parses ts rs → Parsed text rs

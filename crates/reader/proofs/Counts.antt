@@ -155,8 +155,10 @@ counts (loop w n l b c k) rs s r os h =
   where
     zero-plus : (x : ℕ) → 0 + x ≡ x
     zero-plus x = omega arith
+
     body-steps : s + n .value * (1 + (0 + steps (code b))) + steps (code k) ≡ s + (n .value * (1 + steps (code b)) + steps (code k))
     body-steps = ap (λ x. s + n .value * (1 + x) + steps (code k)) (zero-plus (steps (code b))) ∙ omega arith
+
     body-readings : r + n .value * (0 + readings (code b)) + readings (code k) ≡ r + (n .value * readings (code b) + readings (code k))
     body-readings = ap (λ x. r + n .value * x + readings (code k)) (zero-plus (readings (code b))) ∙ omega arith
 counts (atomic w l b c k) rs s r os h =

@@ -162,6 +162,7 @@ module _ where
     where
       none : {X : Type 0} (k : ℕ) → Some k ≡ None → X
       none k e = absurd (let z : _≡_ {A = ℕ} 0 1 = cc in omega arith)
+
       by : (b : Bool) → full c l r ≡ b → cond b (Some (r .place)) (crowded (counted (declares-cell (r .role)) c) (counted (declares-local (r .role)) l) rs) ≡ None → (counted (declares-cell (r .role)) c ≤ 64 → counted (declares-local (r .role)) l ≤ 64 → crowded (counted (declares-cell (r .role)) c) (counted (declares-local (r .role)) l) rs ≡ None → Room (counted (declares-cell (r .role)) c) (counted (declares-local (r .role)) l) rs) → Room c l (r ∷ rs)
       by true e g ih = none _ g
       by false e g ih = roomy (declares-cell (r .role)) (declares-local (r .role)) c l r (those declares-cell rs) (those declares-local rs) p q e (λ p′ q′. ih p′ q′ g)

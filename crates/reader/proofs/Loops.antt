@@ -55,10 +55,10 @@ module _ (rs : List Row) (cells locals i : ℕ) (so : Roomy rs cells locals i) w
 
     pub roomy-more : (cells′ locals′ : ℕ) → false ≡ full cells locals (getD rs i d) → cells′ ≡ counted (declares-cell (getD rs i d .role)) cells → locals′ ≡ counted (declares-local (getD rs i d .role)) locals → Roomy rs cells′ locals′ (i + 1)
     roomy-more cells′ locals′ e p q = (
-        (λ j. crowded (p j) (q j) (drop (i + 1) rs)) ∙ ap (λ b. cond b (Some (getD rs i d .place)) (crowded (counted (declares-cell (getD rs i d .role)) cells) (counted (declares-local (getD rs i d .role)) locals) (drop (i + 1) rs))) e ∙ here,
-        omega (arith, p, one-more (declares-cell (getD rs i d .role)) cells (so .1)),
-        omega (arith, q, one-more (declares-local (getD rs i d .role)) locals (so .2)),
-      )
+      (λ j. crowded (p j) (q j) (drop (i + 1) rs)) ∙ ap (λ b. cond b (Some (getD rs i d .place)) (crowded (counted (declares-cell (getD rs i d .role)) cells) (counted (declares-local (getD rs i d .role)) locals) (drop (i + 1) rs))) e ∙ here,
+      omega (arith, p, one-more (declares-cell (getD rs i d .role)) cells (so .1)),
+      omega (arith, q, one-more (declares-local (getD rs i d .role)) locals (so .2)),
+    )
 
   pub roomy-all : length rs ≤ i → Ok tt ≡ answer 7 (crowded 0 0 rs)
   roomy-all h = ap (answer 7) (sym (at-drop-all (crowded cells locals) rs i h) ∙ so .0)

@@ -1,5 +1,5 @@
-// A read script: the rows of its tokens, its names numbered, and what was counted of it. Whatever
-// value there is of this type is a script that passed questions 1 to 12; its fields say so.
+// A read script: the rows of its tokens, its names numbered, and what was counted of it. Only reading
+// makes one, so each has passed questions 1 to 12; the ghost fields say what later layers lean on.
 ghost use mathlib.Core.Path.{_≡_};
 ghost use mathlib.Core.Bool.{true, false};
 ghost use mathlib.Core.List.{map};

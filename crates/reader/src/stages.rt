@@ -81,5 +81,10 @@ pub(crate) fn ask_script(text: &[u8], rows: &[Row]) -> Result<Found, Fault>
     let names = names_of(rows);
     let cells = cells_of(rows).len;
     let locals = names.len - cells;
-    Ok(Found { names, cells, locals, total })
+    Ok(Found {
+        names,
+        cells,
+        locals,
+        total,
+    })
 }

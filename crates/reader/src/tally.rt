@@ -12,6 +12,7 @@ use script::row::Role;
 use script::row::Row;
 
 const MOST_STEPS: u64 = 1_000_001;
+
 const MOST_READINGS: u64 = 4_097;
 
 // The sum, or the limit where it passes it.
@@ -85,8 +86,16 @@ impl Tally {
     fn none() -> Tally
         ensures { λ r. ⌜ view r ≡ acc none 0 [] ⌝ }
     {
-        let nothing = Total { steps: 0, readings: 0 };
-        Tally { here: nothing, times: 0, outer: [Outer::First(nothing); 16], depth: 0 }
+        let nothing = Total {
+            steps: 0,
+            readings: 0,
+        };
+        Tally {
+            here: nothing,
+            times: 0,
+            outer: [Outer::First(nothing); 16],
+            depth: 0,
+        }
     }
 
     fn more(&mut self, steps: u64, readings: u64)
@@ -102,7 +111,10 @@ impl Tally {
         if self.depth < 16 {
             self.outer[self.depth] = outer;
             self.depth += 1;
-            self.here = Total { steps: 0, readings: 0 };
+            self.here = Total {
+                steps: 0,
+                readings: 0,
+            };
             self.times = 0;
         }
     }
@@ -123,7 +135,10 @@ impl Tally {
         if self.depth > 0 {
             let top = self.depth - 1;
             self.outer[top] = self.outer[top].flipped(self.here);
-            self.here = Total { steps: 0, readings: 0 };
+            self.here = Total {
+                steps: 0,
+                readings: 0,
+            };
             self.times = 0;
         }
     }

@@ -5,6 +5,7 @@ ghost use Prim.Native.Nat.{_<_};
 ghost use Rattle.std.specs.Of.String.{string-bytes};
 ghost use Rattle.std.specs.Vec.{made};
 ghost use Rattle.report.specs.Seen.{seen};
+ghost use Rattle.report.specs.declared.excerpt.How.the-variants.{Shown};
 use std::alloc::AllocError;
 use std::alloc::Global;
 
@@ -20,8 +21,21 @@ fn seen_as(how: How, b: u8) -> u8
     ensures ascii { λ r. ⌜ r < 128 ⌝ }
 {
     match how {
-        How::Shown => if b >= 32 && b <= 126 || b == 9 { b } else { b'.' },
+        How::Shown => shown(b),
         How::Blank => if b == 9 { 9 } else { b' ' },
+    }
+}
+
+fn shown(b: u8) -> u8
+    ensures value { λ r. ⌜ r ≡ seen Shown b ⌝ }
+    ensures ascii { λ r. ⌜ r < 128 ⌝ }
+{
+    if b >= 32 && b <= 126 || b == 9 {
+        b
+    } else if b == 13 {
+        b' '
+    } else {
+        b'.'
     }
 }
 

@@ -52,5 +52,9 @@ pub fn locate(text: &[u8], place: usize) -> Spot
 {
     let at = place.min(text.len());
     let (lines, start) = last_line(&text[0..at]);
-    Spot { line: lines + 1, start, end: line_end(text, at) }
+    Spot {
+        line: lines + 1,
+        start,
+        end: line_end(text, at),
+    }
 }

@@ -1,4 +1,6 @@
--- The script that rows are. Each row, from the last to the first, adds what it is to what follows it. Assumes nothing.
+-- The script that rows are. Each row, from the last to the first, adds what it is to what follows it.
+-- Nothing need be believed of this file: reading a script promises that the rows of every script come back as that
+-- script, and that what it holds are a script's rows. Of other rows the answer means nothing. Assumes nothing.
 use mathlib.Core.List.{List, [], _∷_}
 use Rattle.std.specs.declared.option.Option.{Option}
 use Rattle.std.specs.declared.option.Option.the-variants.{Some, None}

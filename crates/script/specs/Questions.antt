@@ -1,4 +1,5 @@
--- The twelve questions that reading puts to a text, each to the whole text, and the first that says no. Assumes nothing.
+-- The twelve questions that reading puts to a text, each to the whole text, and the first that says no. (The
+-- thirteenth is put to a read script: see Stand.) Assumes nothing.
 use mathlib.Core.Path.{_≡_}
 use mathlib.Core.Logic.{_⊎_}
 use mathlib.Core.List.{List, [], map}
@@ -14,6 +15,7 @@ use Rattle.script.specs.Sizes.{past-bytes, first-where, too-long, past-tokens}
 use Rattle.script.specs.Nesting.{nesting}
 use Rattle.script.specs.Syntax.{Script}
 use Rattle.script.specs.Written.{token, rows, Breaks}
+use Rattle.script.specs.Decode.{decode}
 use Rattle.script.specs.Roles.{declares-cell, those, first-row}
 use Rattle.script.specs.Names.{names, crowded, twice, undeclared, into-cell, out-of-range, no-row}
 use Rattle.script.specs.Steps.{steps-of, readings-of}
@@ -62,3 +64,11 @@ Passes n text = (q : Question) (p : ℕ) → number-of q < n → No q text p →
 -- the fault is that of the first question that says no, at the place where it does
 abbrev pub First-no : List ℕ → Fault → Type 0
 First-no text f = (q : Question) × (f ≡ fault (number-of q) (f .place)) × No q text (f .place) × Passes (number-of q) text
+
+-- a text has at most one syntax
+abbrev pub One-syntax : List ℕ → Type 0
+One-syntax text = (s s′ : Script) → Reads text s → Reads text s′ → s ≡ s′
+
+-- the rows of a script mean that script
+abbrev pub Means-back : Type 0
+Means-back = (s : Script) → decode (rows s) ≡ s

@@ -2,7 +2,7 @@
 use Prim.Native.Nat.{ℕ, _+_, _*_, max}
 use Rattle.script.specs.Syntax.{Leaf, Code, nothing, put, read, fork, turns, region, uses, Decls, no-decl, cell, minus-cell, var, fresh, Script, code}
 
--- each assignment, reading, together, condition, start of a turn, opening and closing is one step;
+-- each assignment, reading, together, condition, start of a turn, opening of a region and closing of one is a step;
 -- blocks add up, an if takes the larger branch, a repeat multiplies
 abbrev pub steps : Code → ℕ
 steps nothing = 0
@@ -42,6 +42,6 @@ steps-of s = steps (code (s .main))
 abbrev pub readings-of : Script → ℕ
 readings-of s = readings (code (s .main))
 
--- every power call of so many units ends the script
+-- the units of power that the script needs; that so many are enough is for the runner to show
 abbrev pub need : Script → ℕ
 need s = (steps-of s + 1) * (cells (s .decls) + 5)

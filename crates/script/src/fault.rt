@@ -39,6 +39,10 @@ impl Fault {
     pub fn new(number: u8, place: usize) -> Fault
         ensures { λ r. ⌜ r ≡ fault number place ⌝ }
     {
-        Fault { number, place, layer: layer_of(number) }
+        Fault {
+            number,
+            place,
+            layer: layer_of(number),
+        }
     }
 }

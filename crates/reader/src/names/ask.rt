@@ -136,7 +136,12 @@ fn is_into_cell(text: &[u8], cells: &Names, target: &Row, row: &Row) -> bool
 pub(crate) fn locals(text: &[u8], cells: &Names, rows: &[Row]) -> Result<(), Fault>
     ensures { λ r. ⌜ r ≡ answer 10 (into-cell (now (text .entry)) (take (now (cells .entry) .len) (now (cells .entry) .rows)) no-row (now (rows .entry))) ⌝ }
 {
-    let mut target = Row { role: Role::MainWord, place: 0, len: 0, value: 0 };
+    let mut target = Row {
+        role: Role::MainWord,
+        place: 0,
+        len: 0,
+        value: 0,
+    };
     for row in rows {
         if is_target(row.role) {
             target = *row;
@@ -159,7 +164,10 @@ fn number_one(text: &[u8], names: &Names, row: Row) -> Row
 {
     if is_name(row.role) {
         let at = names.find(text, &row);
-        Row { value: at as u32, ..row }
+        Row {
+            value: at as u32,
+            ..row
+        }
     } else {
         row
     }
@@ -170,7 +178,12 @@ pub(crate) fn number_all(text: &[u8], names: &Names, rows: &[Row]) -> [Row; 2048
     requires { ⌜ length (now rows) ≤ 2048 ⌝ }
     ensures { λ r. ⌜ take (length (now (rows .entry))) r ≡ map (numbered (now (text .entry)) (take (now (names .entry) .len) (now (names .entry) .rows))) (now (rows .entry)) ⌝ }
 {
-    let mut table = [Row { role: Role::MainWord, place: 0, len: 0, value: 0 }; 2048];
+    let mut table = [Row {
+        role: Role::MainWord,
+        place: 0,
+        len: 0,
+        value: 0,
+    }; 2048];
     for (i, row) in rows.iter().enumerate() {
         table[i] = number_one(text, names, *row);
     }

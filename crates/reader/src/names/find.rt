@@ -63,7 +63,15 @@ impl Names {
     pub(crate) fn none() -> Names
         ensures { λ r. ⌜ take (r .len) (r .rows) ≡ [] ⌝ }
     {
-        Names { rows: [Row { role: Role::MainWord, place: 0, len: 0, value: 0 }; 128], len: 0 }
+        Names {
+            rows: [Row {
+                role: Role::MainWord,
+                place: 0,
+                len: 0,
+                value: 0,
+            }; 128],
+            len: 0,
+        }
     }
 
     // One name more, while there is room.

@@ -11,10 +11,34 @@ ghost-result c =
     let found = take (d .names .len) (d .names .rows) in
     let k = c .in-Continue-names .ensures tt in
     let e = c .number-all-table .ensures in
-    let l = take (length rs) (c .number-all-table .result) in
-    (search needs, (c .pre .few, (list-whole text rs found _ _ _ _ (c .pre) k l e, (list-nested text rs found _ _ _ _ (c .pre) k l e, (list-fits text rs found _ _ _ _ (c .pre) k l e,
-    (list-cells text rs found _ _ _ _ (c .pre) k l e, (list-locals text rs found _ _ _ _ (c .pre) k l e, (list-steps text rs found _ _ _ _ (c .pre) k l e, (list-readings text rs found _ _ _ _ (c .pre) k l e,
-    (k .cells-few, (k .locals-few, (k .steps-few, (k .readings-few, tt)))))))))))))
+    let l = take (length rs) (c .number-all-table .result) in (
+      search needs,
+      (
+        c .pre .few,
+        (
+          list-whole text rs found _ _ _ _ (c .pre) k l e,
+          (
+            list-nested text rs found _ _ _ _ (c .pre) k l e,
+            (
+              list-fits text rs found _ _ _ _ (c .pre) k l e,
+              (
+                list-cells text rs found _ _ _ _ (c .pre) k l e,
+                (
+                  list-locals text rs found _ _ _ _ (c .pre) k l e,
+                  (
+                    list-steps text rs found _ _ _ _ (c .pre) k l e,
+                    (
+                      list-readings text rs found _ _ _ _ (c .pre) k l e,
+                      (k .cells-few, (k .locals-few, (k .steps-few, (k .readings-few, tt)))),
+                    ),
+                  ),
+                ),
+              ),
+            ),
+          ),
+        ),
+      ),
+    )
 
 pub returns : need.returns
 returns c =

@@ -13,8 +13,8 @@ pub loop-i-again : need.loop-i-again
 loop-i-again c =
     let P : ℕ → ℕ → Type 0 = λ n s. Left (c .args .bytes .now) n s (c .loop-i .i + 1) in
     elim (c .if-b-eq10 .came) [
-      then-b-eq10 w ↦ subst₂ P (sym (w .lines-is)) (sym (w .start-is)) (broken (c .args .bytes .now) (c .loop-i .lines) (c .loop-i .start) (c .loop-i .i) (c .loop-i .inv) (c .loop-i-test .taken) (eq-eqb _ _ (w .if-b-eq10 .taken)))
-    | else-b-eq10 w ↦ subst₂ P (sym (w .lines-is)) (sym (w .start-is)) (unbroken (c .args .bytes .now) (c .loop-i .lines) (c .loop-i .start) (c .loop-i .i) (c .loop-i .inv) (c .loop-i-test .taken) (ne-eqb _ _ (w .if-b-eq10 .left)))
+      | then-b-eq10 w ↦ subst₂ P (sym (w .lines-is)) (sym (w .start-is)) (broken (c .args .bytes .now) (c .loop-i .lines) (c .loop-i .start) (c .loop-i .i) (c .loop-i .inv) (c .loop-i-test .taken) (eq-eqb _ _ (w .if-b-eq10 .taken)))
+      | else-b-eq10 w ↦ subst₂ P (sym (w .lines-is)) (sym (w .start-is)) (unbroken (c .args .bytes .now) (c .loop-i .lines) (c .loop-i .start) (c .loop-i .i) (c .loop-i .inv) (c .loop-i-test .taken) (ne-eqb _ _ (w .if-b-eq10 .left)))
     ]
 
 pub returns : need.returns

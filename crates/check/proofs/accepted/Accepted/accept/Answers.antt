@@ -16,7 +16,7 @@ returns-in-Some c =
     let s = syntax (c .args .script .now) in
     let e = ap Err (c .new .ensures) ∙ ap (answer 13) (c .in-Some .ensures tt) in
     record {
-      answer = e;
+      verdict = e;
       one-region = region-accepted s _ e;
       apart = apart-names-accepted s _ e;
       never-lowers = never-lowers;
@@ -30,7 +30,7 @@ returns-in-None c =
     let s = syntax (c .args .script .now) in
     let e = ap (answer 13) (c .in-None .ensures tt) in
     record {
-      answer = e;
+      verdict = e;
       one-region = region-accepted s _ e;
       apart = apart-names-accepted s _ e;
       never-lowers = never-lowers;

@@ -18,8 +18,8 @@ pub loop-row-again : need.loop-row-again
 loop-row-again c =
     let P : Row → Type 0 = λ t. To-locals (c .args .text .now) (take (c .args .cells .now .len) (c .args .cells .now .rows)) (c .args .rows .now) t (c .loop-row .row-index + 1) in
     elim (c .if-is-target .came) [
-      then-is-target w ↦ subst P (sym (w .target-is)) (new-target (c .args .text .now) (take (c .args .cells .now .len) (c .args .cells .now .rows)) (c .args .rows .now) (c .loop-row .target) (c .loop-row .row-index) (c .loop-row .inv) (c .loop-row-test .taken) _ (w .if-is-target .ensures tt))
-    | else-is-target·else-is-into-cell w ↦ subst P (sym (w .target-is)) (same-target (c .args .text .now) (take (c .args .cells .now .len) (c .args .cells .now .rows)) (c .args .rows .now) (c .loop-row .target) (c .loop-row .row-index) (c .loop-row .inv) (c .loop-row-test .taken) _ (w .if-is-target .ensures tt) (w .if-is-into-cell .ensures tt))
+      | then-is-target w ↦ subst P (sym (w .target-is)) (new-target (c .args .text .now) (take (c .args .cells .now .len) (c .args .cells .now .rows)) (c .args .rows .now) (c .loop-row .target) (c .loop-row .row-index) (c .loop-row .inv) (c .loop-row-test .taken) _ (w .if-is-target .ensures tt))
+      | else-is-target·else-is-into-cell w ↦ subst P (sym (w .target-is)) (same-target (c .args .text .now) (take (c .args .cells .now .len) (c .args .cells .now .rows)) (c .args .rows .now) (c .loop-row .target) (c .loop-row .row-index) (c .loop-row .inv) (c .loop-row-test .taken) _ (w .if-is-target .ensures tt) (w .if-is-into-cell .ensures tt))
     ]
 
 pub returns : need.returns

@@ -9,11 +9,12 @@ use Rattle.reader.proofs.names.ask.number_all.Needs as need
 pub loop-i-again : need.loop-i-again
 loop-i-again c =
     let f = numbered (c .args .text .now) (take (c .args .names .now .len) (c .args .names .now .rows)) in
-    let i = c .loop-i .inv in
-    (length-set (c .loop-i .table) (c .loop-i .i) _ ∙ i .0,
-     take-more-set (c .loop-i .table) (c .loop-i .i) _ (omega (arith, i .0, c .loop-i-test .taken, c .pre))
-     ∙ (λ j. i .1 j ++ c .number-one .ensures j ∷ [])
-     ∙ sym (map-more f (c .args .rows .now) (c .loop-i .i) _ (c .loop-i-test .taken)))
+    let i = c .loop-i .inv in (
+      length-set (c .loop-i .table) (c .loop-i .i) _ ∙ i .0,
+      take-more-set (c .loop-i .table) (c .loop-i .i) _ (omega (arith, i .0, c .loop-i-test .taken, c .pre))
+          ∙ (λ j. i .1 j ++ c .number-one .ensures j ∷ [])
+          ∙ sym (map-more f (c .args .rows .now) (c .loop-i .i) _ (c .loop-i-test .taken)),
+    )
 
 pub returns : need.returns
 returns c =

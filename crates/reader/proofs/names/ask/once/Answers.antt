@@ -20,8 +20,8 @@ pub loop-row-again : need.loop-row-again
 loop-row-again c =
     let P : Names → Type 0 = λ s. Once (c .args .text .now) (c .args .rows .now) (take (s .len) (s .rows)) (c .loop-row .row-index + 1) in
     elim (c .if-declares-name .came) [
-      then-declares-name·else-has w ↦ subst P (sym (w .seen-is)) (once-more (c .args .text .now) (c .args .rows .now) _ (c .loop-row .row-index) (c .loop-row .inv) (c .loop-row-test .taken) _ _ (w .if-declares-name .ensures tt) (w .if-has .ensures tt) (w .push .ensures))
-    | else-declares-name w ↦ subst P (sym (w .seen-is)) (once-past (c .args .text .now) (c .args .rows .now) _ (c .loop-row .row-index) (c .loop-row .inv) (c .loop-row-test .taken) _ (w .if-declares-name .ensures tt))
+      | then-declares-name·else-has w ↦ subst P (sym (w .seen-is)) (once-more (c .args .text .now) (c .args .rows .now) _ (c .loop-row .row-index) (c .loop-row .inv) (c .loop-row-test .taken) _ _ (w .if-declares-name .ensures tt) (w .if-has .ensures tt) (w .push .ensures))
+      | else-declares-name w ↦ subst P (sym (w .seen-is)) (once-past (c .args .text .now) (c .args .rows .now) _ (c .loop-row .row-index) (c .loop-row .inv) (c .loop-row-test .taken) _ (w .if-declares-name .ensures tt))
     ]
 
 pub returns : need.returns

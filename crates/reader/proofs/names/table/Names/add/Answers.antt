@@ -16,8 +16,8 @@ pub loop-row-again : need.loop-row-again
 loop-row-again c =
     let P : Names → Type 0 = λ s. Added (wanted (c .args .kind)) (c .args .rows .now) (take (c .args .self .now .len) (c .args .self .now .rows)) (take (s .len) (s .rows)) (c .loop-row .row-index + 1) in
     elim (c .if-is-wanted .came) [
-      then-is-wanted w ↦ subst P (sym (w .self-is)) (added-one (wanted (c .args .kind)) (c .args .rows .now) _ _ _ (c .loop-row .inv) (c .loop-row-test .taken) _ _ (w .if-is-wanted .ensures tt) (w .push .ensures))
-    | else-is-wanted w ↦ subst P (sym (w .self-is)) (added-past (wanted (c .args .kind)) (c .args .rows .now) _ _ _ (c .loop-row .inv) (c .loop-row-test .taken) _ (w .if-is-wanted .ensures tt))
+      | then-is-wanted w ↦ subst P (sym (w .self-is)) (added-one (wanted (c .args .kind)) (c .args .rows .now) _ _ _ (c .loop-row .inv) (c .loop-row-test .taken) _ _ (w .if-is-wanted .ensures tt) (w .push .ensures))
+      | else-is-wanted w ↦ subst P (sym (w .self-is)) (added-past (wanted (c .args .kind)) (c .args .rows .now) _ _ _ (c .loop-row .inv) (c .loop-row-test .taken) _ (w .if-is-wanted .ensures tt))
     ]
 
 pub returns : need.returns
