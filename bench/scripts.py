@@ -3,6 +3,8 @@
 
 chain-D-K    D nested repeats, each of which moves K names by one place in a turn, so that a reading in
              the innermost takes many turns to come to the outermost: the worst that is known for the check
+ifs-D-K      the same chain of K names in one repeat, inside D nested ifs, each of which is looked through
+             again for the names that it assigns
 tokens       2,048 tokens, which is as many as a script may have
 bytes        8,192 bytes, which is as many as a script may have
 smallest     main { }
@@ -31,6 +33,16 @@ def chain(depth, width):
     return "%smain{%stogether %s;}" % ("".join(decls), body, names[0])
 
 
+def ifs(depth, width):
+    names = ["n%d" % i for i in range(width)]
+    decls = "".join("cell %s=0;" % n if i < width - 64 else "var %s;" % n for i, n in enumerate(names))
+    moves = "".join("%s=%s;" % (names[i], names[i + 1]) for i in range(width - 1))
+    body = moves + "%s=in 1;" % names[-1]
+    for _ in range(depth):
+        body = "if %s{%s}" % (names[0], body)
+    return "%smain{repeat 1{%s}together %s;}" % (decls, body, names[0])
+
+
 def tokens(count):
     """One block of assignments with exactly so many tokens."""
     head = "cell c=0;main{"  # 5 + 2 tokens
@@ -57,6 +69,7 @@ def main(folder):
         made["chain-%d-8" % depth] = chain(depth, 8)
     made["chain-8-16"] = chain(8, 16)
     made["chain-1-128"] = chain(1, 128)
+    made["ifs-14-128"] = ifs(14, 128)
     for name, text in made.items():
         with open(os.path.join(folder, name + ".drive"), "w") as out:
             out.write(text)
