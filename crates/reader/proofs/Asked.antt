@@ -28,6 +28,7 @@ use Rattle.script.specs.Roles.{declares-cell, those, first-row}
 use Rattle.script.specs.Names.{names, crowded, twice, undeclared, into-cell, out-of-range, no-row}
 use Rattle.reader.proofs.Declared.{few-names, few-cells, few-locals, cells-rows, locals-rows}
 use Rattle.script.specs.Questions.{Question, bytes-few, bytes-known, tokens-short, tokens-few, nested-within, written, names-few, names-once, names-declared, readings-local, numbers-in-range, bounded, number-of, Reads, No, Passes, First-no, One-syntax}
+use Rattle.script.proofs.Answers.{refused, taken, by-answer, few-tokens}
 use Rattle.parser.specs.Reading.{Parses, Unparsed}
 use Rattle.parser.proofs.Reading.{one-script}
 use Rattle.parser.proofs.Decoded.{decoded}
@@ -42,21 +43,6 @@ use Rattle.reader.proofs.Counts.{counts-script}
 use Rattle.reader.specs.Stages.{Scanned, Parsed, Named, Counted, Unbounded, Bounded}
 
 -- ---- answers
-
-pub refused : (n : ℕ) (o : Option ℕ) (f : Fault) → Err f ≡ answer n o → (o ≡ Some (f .place)) × (f ≡ fault n (f .place))
-refused n None f e = absurd (let z : _≡_ {A = ℕ} 0 1 = cc in omega arith)
-refused n (Some p) f e =
-    let g : f ≡ fault n p = cc in
-    (ap (λ (x : Fault). Some (x .place)) (sym g), g ∙ ap (λ (x : Fault). fault n (x .place)) (sym g))
-
-pub taken : (n : ℕ) (o : Option ℕ) → Ok tt ≡ answer n o → o ≡ None
-taken n None e = refl
-taken n (Some p) e = absurd (let z : _≡_ {A = ℕ} 0 1 = cc in omega arith)
-
--- what holds where the question says nothing, and where it refuses
-pub by-answer : (n : ℕ) (o : Option ℕ) (r : Result (Unit {0}) Fault) (P : Type 0) (Q : Fault → Type 0) → r ≡ answer n o → (Ok tt ≡ answer n o → P) → ((f : Fault) → Err f ≡ answer n o → Q f) → Cases r (λ _. P) Q
-by-answer n o (Ok u) P Q e p q = p e
-by-answer n o (Err f) P Q e p q = q f e
 
 none-some : {X : Type 0} (o : Option ℕ) (p : ℕ) → o ≡ None → o ≡ Some p → X
 none-some o p e g = absurd (let z : _≡_ {A = ℕ} 0 1 = cc in omega arith)
@@ -214,13 +200,6 @@ pub one-syntax : (text : List ℕ) → One-syntax text
 one-syntax text s s′ p q = one-script (map token (rows s)) s s′ refl (ok-same _ _ (tokens text) p q)
 
 -- ---- 5 and 6
-
-few-tokens : (ts : List Tok) → past-tokens ts ≡ None → length ts ≤ 2048
-few-tokens ts e = let n = by (drop 2048 ts) e in let l = length-drop 2048 ts in omega (arith, n, l)
-  where
-    by : (us : List Tok) → first-place us ≡ None → length us ≡ 0
-    by [] h = refl
-    by (u ∷ us) h = absurd (let z : _≡_ {A = ℕ} 0 1 = cc in omega arith)
 
 module _ (text : List ℕ) (ts : List Tok) (so : Scanned text ts) where
   pub stop-5 : (f : Fault) → Err f ≡ answer 5 (nesting ts) → First-no text f

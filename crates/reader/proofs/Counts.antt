@@ -18,6 +18,7 @@ use Rattle.reader.specs.declared.count.Total.{Total}
 use Rattle.reader.specs.declared.count.Outer.{Outer}
 use Rattle.reader.specs.declared.count.Outer.the-variants.{Repeat, First, Second}
 use Rattle.reader.specs.Count.{cap-steps, cap-readings, total, none, add, multiply, larger, Acc, acc, more, enter, ended, leave, flip, flipped, does, count}
+use Rattle.reader.proofs.Caps.{cap-product}
 use Rattle.reader.proofs.Nests.{depth}
 
 -- ---- sums that stop at a limit
@@ -44,15 +45,8 @@ times-steps n a m = ⊎-elim (λ h. past n h) (λ h. let e : min a m ≡ a = ome
     past zero h = simp zero-mul
     past (suc k) h = simp suc-mul (omega arith)
 
-times-readings : (n a m : ℕ) → min (n * min a m) m ≡ min (n * a) m
-times-readings n a m = ⊎-elim (λ h. past n h) (λ h. let e : min a m ≡ a = omega arith in ap (λ x. min (n * x) m) e) (cases-lt m a)
-  where
-    past : (k : ℕ) → m < a → min (k * min a m) m ≡ min (k * a) m
-    past zero h = simp zero-mul
-    past (suc k) h = simp suc-mul (omega arith)
-
 multiply-total : (n a b : ℕ) → multiply n (total a b) ≡ total (n * (1 + a)) (n * b)
-multiply-total n a b = at-totals _ _ _ _ (times-steps n a 1000001) (times-readings n b 4097)
+multiply-total n a b = at-totals _ _ _ _ (times-steps n a 1000001) (cap-product n b 4097)
 
 -- ---- rows that count nothing
 

@@ -11,7 +11,8 @@ use Rattle.script.specs.Names.{undeclared, into-cell, out-of-range, no-row}
 use Rattle.script.specs.Questions.{First-no}
 use Rattle.reader.specs.Stages.{Named}
 use Rattle.reader.proofs.Declared.{few-declared}
-use Rattle.reader.proofs.Asked.{taken, by-answer, stop-7, stop-8, stop-9, stop-10, stop-11, all-names, all-cells, named}
+use Rattle.script.proofs.Answers.{taken, by-answer}
+use Rattle.reader.proofs.Asked.{stop-7, stop-8, stop-9, stop-10, stop-11, all-names, all-cells, named}
 use Rattle.reader.proofs.stages.ask_names.Needs as need
 
 pub returns-in-Break-room : need.returns-in-Break-room
