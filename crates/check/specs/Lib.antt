@@ -5,3 +5,4 @@ pub mod Laws
 pub mod Limits
 pub mod Machine
 pub mod States
+pub mod Verdict

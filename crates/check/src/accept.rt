@@ -6,6 +6,7 @@ ghost use Rattle.script.specs.Stand.{first-refused};
 ghost use Rattle.script.specs.Written.{rows as rows-of};
 ghost use Rattle.reader.specs.Holding.{syntax, rows-in, empty};
 ghost use Rattle.check.specs.Laws.{One-region-accepted, Apart-accepted, Never-lowers, Settles-least, Last-walks-tell};
+ghost use Rattle.check.specs.Verdict.{Taken, Turned-down};
 use crate::accepted::Accepted;
 use crate::first::first_refused;
 use reader::script::Script;
@@ -45,6 +46,16 @@ impl Accepted {
                 Ok(())
             }
         }
+    }
+
+    // All thirteen questions, put to a text: replaces the accepted script by the one that the text is, or
+    // refuses and leaves it as it was.
+    pub fn check(&mut self, text: &[u8]) -> Result<(), Fault>
+        ensures { λ r. ⌜ Cases r (λ _. Taken (now (text .entry)) (rows-in (now (self .exit) .script))) (λ f. Turned-down (now (text .entry)) f × (now (self .exit) ≡ now (self .entry))) ⌝ }
+    {
+        let mut script = Script::new();
+        script.read(text)?;
+        self.accept(&script)
     }
 
     // The script that was accepted last.

@@ -7,8 +7,6 @@ ghost use Rattle.std.specs.Results.{Cases};
 mod show;
 
 use check::accepted::Accepted;
-use reader::script::Script;
-use script::fault::Fault;
 use show::print_refusal;
 use std::env;
 use std::error::AnyError;
@@ -40,13 +38,6 @@ fn read_start(rt: &LibcRuntime, path: &str, buf: &mut [u8]) -> io::Result<usize>
     Ok(len)
 }
 
-// All thirteen questions.
-fn ask(text: &[u8], accepted: &mut Accepted) -> Result<(), Fault> {
-    let mut script = Script::new();
-    script.read(text)?;
-    accepted.accept(&script)
-}
-
 fn check_file(rt: &LibcRuntime, path: &str) -> Result<(), AnyError> {
     let mut buf = [0u8; 8193];
     let len = match read_start(rt, path, &mut buf) {
@@ -58,7 +49,7 @@ fn check_file(rt: &LibcRuntime, path: &str) -> Result<(), AnyError> {
     };
     let text = &buf[0..len];
     let mut accepted = Accepted::new();
-    if let Err(fault) = ask(text, &mut accepted) {
+    if let Err(fault) = accepted.check(text) {
         print_refusal(rt, path, text, fault)?;
         return Err("refused".into());
     }
