@@ -10,7 +10,6 @@ ghost use Rattle.script.specs.Roles.{those};
 ghost use Rattle.reader.specs.Wanted.{wanted};
 use crate::names::roles::declares_cell;
 use crate::names::roles::declares_local;
-use crate::names::roles::declares_name;
 use crate::names::table::Kind;
 use crate::names::table::Names;
 use script::row::Role;
@@ -22,7 +21,6 @@ fn is_wanted(kind: Kind, role: Role) -> bool
     match kind {
         Kind::Cells => declares_cell(role),
         Kind::Locals => declares_local(role),
-        Kind::Both => declares_name(role),
     }
 }
 

@@ -1,10 +1,7 @@
-// The table of declared names, and looking a name up in it.
+// The table of declared names.
 ghost use mathlib.Core.Path.{_≡_};
-ghost use mathlib.Core.List.{[], _∷_, _++_};
-ghost use Prim.Native.Nat.{_≤_, min};
-ghost use lib.ListN.{length, take, drop};
-ghost use Rattle.std.specs.shelf.Text.{sameBytes};
-use script::row::Role;
+ghost use Prim.Native.Nat.{_≤_};
+ghost use lib.ListN.{length};
 use script::row::Row;
 
 // Which declared names are wanted.
@@ -12,7 +9,6 @@ use script::row::Row;
 pub(crate) enum Kind {
     Cells,
     Locals,
-    Both,
 }
 
 // Declared names in a row: at most 64 cells and 64 locals, as question 7 has it.
