@@ -1,0 +1,4 @@
+pub mod Readings
+pub mod Drifts
+pub mod Traces
+pub mod Order

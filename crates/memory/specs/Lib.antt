@@ -1,0 +1,5 @@
+pub mod Meaning
+pub mod Calls
+pub mod Model
+pub mod Plan
+pub mod Cells
