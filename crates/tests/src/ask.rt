@@ -28,14 +28,14 @@ pub type Long = (u8, usize, Pieces);
 // Cells, locals, steps, readings and need.
 pub type Counts = (usize, usize, u64, u64, u64);
 
-pub fn of_answer(answer: Result<(), Fault>) -> Verdict {
+pub(crate) fn of_answer(answer: Result<(), Fault>) -> Verdict {
     match answer {
         Ok(()) => ACCEPTED,
         Err(fault) => (fault.number, fault.place, fault.layer as u8),
     }
 }
 
-pub fn verdict(text: &[u8]) -> Verdict {
+pub(crate) fn verdict(text: &[u8]) -> Verdict {
     let mut script = Script::new();
     let answer = script.read(text);
     if answer.is_err() {
@@ -67,7 +67,7 @@ fn unmarked(heap: Global, marked: &[u8]) -> Result<(Vec<u8>, usize), AllocError>
     Ok((text, place))
 }
 
-pub fn all_agree(heap: Global, layer: Layer, cases: &[Case]) -> Result<(), Fail> {
+pub(crate) fn all_agree(heap: Global, layer: Layer, cases: &[Case]) -> Result<(), Fail> {
     for (number, marked) in cases {
         let (text, place) = unmarked(heap, marked.as_bytes())?;
         check_eq(verdict(text.as_slice()), expected(*number, place, layer)).note(*marked)?;
@@ -96,7 +96,7 @@ fn put_piece(text: &mut Vec<u8>, piece: &[u8], turn: usize) -> Result<(), AllocE
     Ok(())
 }
 
-pub fn written(heap: Global, pieces: &[(&str, usize)]) -> Result<Vec<u8>, AllocError> {
+pub(crate) fn written(heap: Global, pieces: &[(&str, usize)]) -> Result<Vec<u8>, AllocError> {
     let mut text = Vec::new(heap);
     for (piece, times) in pieces {
         for turn in 0..*times {
@@ -106,7 +106,7 @@ pub fn written(heap: Global, pieces: &[(&str, usize)]) -> Result<Vec<u8>, AllocE
     Ok(text)
 }
 
-pub fn all_long_agree(heap: Global, layer: Layer, cases: &[Long]) -> Result<(), Fail> {
+pub(crate) fn all_long_agree(heap: Global, layer: Layer, cases: &[Long]) -> Result<(), Fail> {
     for (number, place, pieces) in cases {
         let text = written(heap, pieces)?;
         check_eq(verdict(text.as_slice()), expected(*number, *place, layer)).note(text.len())?;
@@ -114,7 +114,7 @@ pub fn all_long_agree(heap: Global, layer: Layer, cases: &[Long]) -> Result<(), 
     Ok(())
 }
 
-pub fn counts(script: &Script) -> Counts {
+pub(crate) fn counts(script: &Script) -> Counts {
     (
         script.cells(),
         script.locals(),
@@ -125,7 +125,7 @@ pub fn counts(script: &Script) -> Counts {
 }
 
 // All 0 where the text is refused: what is read has a need of at least 5.
-pub fn counted(text: &[u8]) -> Counts {
+pub(crate) fn counted(text: &[u8]) -> Counts {
     let mut script = Script::new();
     match script.read(text) {
         Ok(()) => counts(&script),
