@@ -2,6 +2,8 @@
 // together, may have a reading behind it that a power failure can make old. A value of `Accepted` is a
 // read script that passed; `accept` is the only way to make one, so what takes an `Accepted` cannot be
 // given a script that was not checked.
+#![tactic(auto)]
+
 pub mod accept;
 pub mod accepted;
 mod braces;

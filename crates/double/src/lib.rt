@@ -5,6 +5,8 @@
 // the half changed and bit 1 clear; mend clears bit 1. A call is cut at the first word without a unit, and
 // the words before it stand. specs/Buffer.antt says which words each call writes, and the contract of
 // every call gives by equality all the words after it, done or cut.
+#![tactic(auto)]
+
 pub mod buffer;
 pub mod calls;
 pub mod halves;

@@ -1,5 +1,7 @@
 // The program: `heronnail check FILE` reads a script file and says whether it is accepted. It is a thin
 // shell over the proved library; what it prints is tested.
+#![tactic(auto)]
+
 ghost use Rattle.std.specs.Prelude.{◌≤◌, length, IfOk};
 
 mod show;

@@ -3,6 +3,8 @@
 // a run asks of one. Two are here: `Drift`, whose channels rise or fall by the same amount at each tick,
 // and `Trace`, whose channels follow a table of samples. Each is made from rows of a table, and is
 // refused where the table is wrong. The definitions that a reader has to believe stand in specs/.
+#![tactic(auto)]
+
 ghost use Rattle.std.specs.Prelude.{◌≡◌, ℕ, ◌≤◌, ℤ};
 ghost use Rattle.host.specs.Readings.{read};
 

@@ -1,5 +1,7 @@
 // Tests of the hosts and of the list, and what their promises come to for a caller: `traced` and
 // `drifted` make a host and read it through the trait, and say what they answer by the table alone.
+#![tactic(auto)]
+
 ghost use Rattle.std.specs.Prelude.{◌≡◌, ℕ, length};
 ghost use Rattle.host.specs.Drifts.{drift, drift_table};
 ghost use Rattle.host.specs.Readings.{read};

@@ -3,6 +3,8 @@
 // to an earlier length. Each of these says whether it was done; where it was not, the list is as it was.
 // The list never allocates and never grows past the slice. `Journal` is what a run asks of a list, so
 // that it can hold one by value whatever the list is made of.
+#![tactic(auto)]
+
 ghost use Rattle.std.specs.Prelude.{◌≡◌, ℕ, List, [], length, take, nat_le, nat_lt};
 ghost use Rattle.std.specs.List.{slice_get};
 ghost use Rattle.list.specs.Entries.{added, cut_back};

@@ -6,6 +6,8 @@
 // that the code does what the model does. A memory that writes words one by one gets its model and its laws
 // from a plan of its words, which specs/Plan.antt shares among all of them. What a run proves of a `Memory`
 // holds of each one, and is exact for each one whose model is.
+#![tactic(auto)]
+
 ghost use Rattle.std.specs.Prelude.{◌≡◌, length};
 ghost use Rattle.memory.specs.Calls.{Put, Open, Close, Mend};
 ghost use Rattle.memory.specs.Model.{Model, Lawful, answer, after, cell_of};

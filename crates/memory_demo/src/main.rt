@@ -1,6 +1,8 @@
 // A program that shows what a power failure does to a region, on both memories: it makes two cells, 10 and
 // 20, and runs a region that puts 11, 21 and 12 into them with 0 units, 1 unit and so on, until the region
 // is closed. Each line has the units, how far the region came, and the kept cells after a mend.
+#![tactic(auto)]
+
 #[cfg(test)]
 mod made;
 mod region;

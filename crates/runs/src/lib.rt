@@ -3,4 +3,6 @@
 // The definitions stand in specs/: what is left to do and what stands behind each name (Behind), what one
 // step and one power call do (Machine), the calls and their refusals (Calls), and the promise over whole
 // runs (Promise). The proofs of the promise, for every memory that keeps its laws, stand in proofs/.
+#![tactic(auto)]
+
 pub mod types;

@@ -3,6 +3,8 @@
 // script cut short, and what a refusal leaves as it was. A case is a script with `@` written just
 // before the place of its fault; a long script is given by its pieces, each with how many times it
 // stands. There is nothing here but tests.
+#![tactic(auto)]
+
 #[cfg(test)]
 mod ask;
 #[cfg(test)]

@@ -5,6 +5,8 @@
 // old value back and then state 0. A call is cut at the first word without a unit, and the words before
 // it stand. specs/Log.antt says which words each call writes, and the contract of every call gives by
 // equality all the words after it, done or cut.
+#![tactic(auto)]
+
 pub mod calls;
 pub mod log;
 #[cfg(test)]

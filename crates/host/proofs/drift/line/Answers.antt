@@ -35,13 +35,13 @@ sum a b t e f h =
     ∙ ap (λ z. a +ℤ to_z w64 (of_z w64 z)) (product b t f h)
     ∙ ap (λ z. a +ℤ z) (to_z-of_z w64 (b *ℤ pos t) (product_fits b t f h))
 
-pub overflow-mul-result : goal.overflow-mul-result
-overflow-mul-result c =
+pub overflow_mul-result : goal.overflow_mul-result
+overflow_mul-result c =
     let f : SFits w32 c.args.r.slope = search rules in
     subst (SFits w64) (sym (product c.args.r.slope c.args.tick f c.requires)) (product_fits c.args.r.slope c.args.tick f c.requires)
 
-pub overflow-add-result : goal.overflow-add-result
-overflow-add-result c =
+pub overflow_add-result : goal.overflow_add-result
+overflow_add-result c =
     let e : SFits w32 c.args.r.start = search rules in
     let f : SFits w32 c.args.r.slope = search rules in
     subst (SFits w64) (sym (sum c.args.r.start c.args.r.slope c.args.tick e f c.requires)) (sum_fits c.args.r.start c.args.r.slope c.args.tick e f c.requires)

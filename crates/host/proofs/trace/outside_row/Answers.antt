@@ -14,8 +14,8 @@ over rows i h = at_drop_all (first_outside i) rows i h
 pub loop-i-preserved : goal.loop-i-preserved
 loop-i-preserved c = search (rules, step)
 
-pub returns-then-is-outside : goal.returns-then-is-outside
-returns-then-is-outside c = search (rules, step)
+pub returns-then-is_outside : goal.returns-then-is_outside
+returns-then-is_outside c = search (rules, step)
 
 pub returns : goal.returns
 returns c = search (rules, over)

@@ -5,14 +5,14 @@ use Rattle.lexer.proofs.scan.run_end.Goals as goal
 
 pub loop-i-preserved : goal.loop-i-preserved
 loop-i-preserved c =
-    omega (arith, prefix_len-drop_yes (in_class c.args.class) c.args.text.now c.loop-i.i 0 (omega arith) (sym c.if-is-in.ensures))
+    omega (arith, prefix_len-drop_yes (in_class c.args.class) c.args.text.now c.loop-i.i 0 (omega arith) (sym c.if-is_in.ensures))
 
-pub returns-else-is-in : goal.returns-else-is-in
-returns-else-is-in c =
+pub returns-else-is_in : goal.returns-else-is_in
+returns-else-is_in c =
     record {
-      value = omega (arith, prefix_len-drop_no (in_class c.args.class) c.args.text.now c.loop-i.i 0 (omega arith) (sym c.if-is-in.ensures));
+      value = omega (arith, prefix_len-drop_no (in_class c.args.class) c.args.text.now c.loop-i.i 0 (omega arith) (sym c.if-is_in.ensures));
       within = omega arith;
-      stops = λ _. sym c.if-is-in.ensures;
+      stops = λ _. sym c.if-is_in.ensures;
     }
 
 pub returns-after-loop-i : goal.returns-after-loop-i

@@ -8,26 +8,26 @@ use Rattle.lexer.proofs.scan.token_from.Goals as goal
 pub returns-then-start-text : goal.returns-then-start-text
 returns-then-start-text c =
     let s = c.args.text.now in
-    let start = c.run-end-start.result in
-    rest_start s c.args.at start c.run-end-start.ensures.value ∙ rest_end s start c.if-start-text.true
+    let start = c.run_end-start.result in
+    rest_start s c.args.at start c.run_end-start.ensures.value ∙ rest_end s start c.if-start-text.true
 
 pub returns-in-None : goal.returns-in-None
 returns-in-None c =
     let s = c.args.text.now in
-    let start = c.run-end-start.result in
+    let start = c.run_end-start.result in
     let lt = c.if-start-text.false in
-    rest_start s c.args.at start c.run-end-start.ensures.value
-    ∙ rest_stray s start lt (c.run-end-start.ensures.stops lt) c.in-None.ensures.value
+    rest_start s c.args.at start c.run_end-start.ensures.value
+    ∙ rest_stray s start lt (c.run_end-start.ensures.stops lt) c.in-None.ensures.value
     ∙ ap Err (sym c.new.ensures)
 
 pub returns-in-Some : goal.returns-in-Some
 returns-in-Some c =
     let s = c.args.text.now in
-    let start = c.run-end-start.result in
+    let start = c.run_end-start.result in
     let lt = c.if-start-text.false in
     let t = c.in-Some.token in
     let lies = c.in-Some.ensures.lies in
     let long = plain_len t start in
-    let one = rest_token s start lt (c.run-end-start.ensures.stops lt) (plain t start) c.in-Some.ensures.value (omega arith) in
-    let read = rest_start s c.args.at start c.run-end-start.ensures.value ∙ one ∙ ap (λ n. after (plain t start ∷ []) (rest s (start + n))) long in
-    (read, omega (arith, c.run-end-start.ensures.value), lies.0, lies.1)
+    let one = rest_token s start lt (c.run_end-start.ensures.stops lt) (plain t start) c.in-Some.ensures.value (omega arith) in
+    let read = rest_start s c.args.at start c.run_end-start.ensures.value ∙ one ∙ ap (λ n. after (plain t start ∷ []) (rest s (start + n))) long in
+    (read, omega (arith, c.run_end-start.ensures.value), lies.0, lies.1)

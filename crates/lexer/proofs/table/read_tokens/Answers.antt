@@ -13,18 +13,18 @@ loop-t-preserved c =
     let s = c.args.text.now in
     let at = c.loop-t.lexer.at in
     let to = c.next.new.self.at in
-    let told = told_some s c.loop-t.lexer.text.now at to _ _ c.loop-t.invariant.0 c.in-Some.is c.in-ok-t.ensures.read in
+    let told = told_some s c.loop-t.lexer.text.now at to _ _ c.loop-t.invariant.0 c.in-Some.is c.in_ok-t.ensures.read in
     let read = told.0 ∙ ap (λ x. after (x ∷ []) (rest s to)) (sym c.record.ensures) in
     let on : at < to = omega (arith, told.1, told.2, told.3) in
-    sofar_more s c.loop-t.lexer.text.now c.loop-t.out c.loop-t.n at c.loop-t.invariant c.record.result to read _ c.in-ok-t.ensures.text on c.if-n-out.false
+    sofar_more s c.loop-t.lexer.text.now c.loop-t.out c.loop-t.n at c.loop-t.invariant c.record.result to read _ c.in_ok-t.ensures.text on c.if-n-out.false
 
 pub loop-t-smaller : goal.loop-t-smaller
 loop-t-smaller c =
     let s = c.args.text.now in
     let at = c.loop-t.lexer.at in
     let to = c.next.new.self.at in
-    let told = told_some s c.loop-t.lexer.text.now at to _ _ c.loop-t.invariant.0 c.in-Some.is c.in-ok-t.ensures.read in
-    let long : length c.next.new.self.text.now ≡ length s = ap length (c.in-ok-t.ensures.text ∙ c.loop-t.invariant.0) in
+    let told = told_some s c.loop-t.lexer.text.now at to _ _ c.loop-t.invariant.0 c.in-Some.is c.in_ok-t.ensures.read in
+    let long : length c.next.new.self.text.now ≡ length s = ap length (c.in_ok-t.ensures.text ∙ c.loop-t.invariant.0) in
     omega (arith, told.1, told.2, told.3, c.next.new.self.ok)
 
 pub returns-then-n-out : goal.returns-then-n-out
@@ -34,8 +34,8 @@ returns-then-n-out c =
     let to = c.next.new.self.at in
     let t = c.in-Some.t in
     let place = c.in-Some.place in
-    let told = told_some s c.loop-t.lexer.text.now at to _ _ c.loop-t.invariant.0 c.in-Some.is c.in-ok-t.ensures.read in
-    let long : length c.next.new.self.text.now ≡ length s = ap length (c.in-ok-t.ensures.text ∙ c.loop-t.invariant.0) in
+    let told = told_some s c.loop-t.lexer.text.now at to _ _ c.loop-t.invariant.0 c.in-Some.is c.in_ok-t.ensures.read in
+    let long : length c.next.new.self.text.now ≡ length s = ap length (c.in_ok-t.ensures.text ∙ c.loop-t.invariant.0) in
     let is = c.new.ensures ∙ ap (fault 4) (sym (plain_place t place)) in
     record {
       table = λ room. absurd (omega (arith, room, told.1, told.2, told.3, c.next.new.self.ok, c.if-n-out.true));
@@ -45,13 +45,13 @@ returns-then-n-out c =
       rising = tt;
     }
 
-pub returns-in-err-t : goal.returns-in-err-t
-returns-in-err-t c =
-    let p = err_from_is_err_and c.from-residual.result c.from-residual.ensures.1 in
+pub returns-in_err-t : goal.returns-in_err-t
+returns-in_err-t c =
+    let p = err_from_is_err_and c.from_residual.result c.from_residual.ensures.1 in
     let s = c.args.text.now in
     let at = c.loop-t.lexer.at in
-    let stray = told_err s c.loop-t.lexer.text.now at c.next.new.self.at c.in-err-t.field-0.0 c.loop-t.invariant.0 c.in-err-t.ensures.read in
-    let all = sofar_stray s c.loop-t.lexer.text.now c.loop-t.out c.loop-t.n at c.loop-t.invariant c.in-err-t.field-0.0 stray in
+    let stray = told_err s c.loop-t.lexer.text.now at c.next.new.self.at c.in_err-t.field-0.0 c.loop-t.invariant.0 c.in_err-t.ensures.read in
+    let all = sofar_stray s c.loop-t.lexer.text.now c.loop-t.out c.loop-t.n at c.loop-t.invariant c.in_err-t.field-0.0 stray in
     rw (p.1, p.2) (record { table = λ _. all; full = inl all; count = tt; inside = tt; rising = tt })
 
 pub returns : goal.returns
@@ -59,7 +59,7 @@ returns c =
     let s = c.args.text.now in
     let n = c.loop-t.n in
     let at = c.loop-t.lexer.at in
-    let end = told_none s c.loop-t.lexer.text.now at c.next.new.self.at _ c.loop-t.invariant.0 c.in-default.is c.in-ok-t.ensures.read in
+    let end = told_none s c.loop-t.lexer.text.now at c.next.new.self.at _ c.loop-t.invariant.0 c.in_default.is c.in_ok-t.ensures.read in
     let all = sofar_end s c.loop-t.lexer.text.now c.loop-t.out n at c.loop-t.invariant end in
     let long : length c.loop-t.lexer.text.now ≡ length s = ap length c.loop-t.invariant.0 in
     record {

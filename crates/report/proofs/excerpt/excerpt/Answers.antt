@@ -5,8 +5,8 @@ use Rattle.report.proofs.excerpt.excerpt.Goals as goal
 
 pub loop-b-preserved : goal.loop-b-preserved
 loop-b-preserved c =
-    let p = c.in-ok-push.ensures in
-    let x = c.seen-as.ensures in
+    let p = c.in_ok-push.ensures in
+    let x = c.seen_as.ensures in
     p.bytes ∙ (λ i. c.loop-b.invariant i ++ (p.ascii x.ascii ∙ ap (λ v. v ∷ []) x.value) i) ∙ sym (map_more (seen c.args.how) c.args.bytes.now c.loop-b.b-index 0 c.loop-b-test.true)
 
 pub returns : goal.returns
