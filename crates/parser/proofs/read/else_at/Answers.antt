@@ -10,8 +10,8 @@ use Rattle.parser.proofs.read.else_at.Goals as goal
 pub returns-in-Else : goal.returns-in-Else
 returns-in-Else c = sym (else_next c.args.toks.now c.args.i _ c.if-i-toks.true (get_or_default _ _ _ _ c.if-i-toks.true) ∙ ap (λ s. is s Else) c.in-Else.is)
 
-pub returns-in-default : goal.returns-in-default
-returns-in-default c = sym (else_next c.args.toks.now c.args.i _ c.if-i-toks.true (get_or_default _ _ _ _ c.if-i-toks.true) ∙ differs _ Else c.in-default.not-Else)
+pub returns-in_default : goal.returns-in_default
+returns-in_default c = sym (else_next c.args.toks.now c.args.i _ c.if-i-toks.true (get_or_default _ _ _ _ c.if-i-toks.true) ∙ differs _ Else c.in_default.not-Else)
 
 pub returns-else-i-toks : goal.returns-else-i-toks
 returns-else-i-toks c = le-ltb _ _ c.if-i-toks.false ∙ sym (else_past c.args.toks.now c.args.i c.if-i-toks.false)

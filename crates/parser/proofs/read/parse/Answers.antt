@@ -5,9 +5,9 @@ use Rattle.parser.proofs.read.parse.Goals as goal
 
 pub returns : goal.returns
 returns c = record {
-  beyond = c.rows-of.ensures.beyond;
+  beyond = c.rows_of.ensures.beyond;
   reads = λ n h.
-      MatchResult-weaker c.rows-of.result (c.rows-of.ensures.runs n)
+      MatchResult-weaker c.rows_of.result (c.rows_of.ensures.runs n)
       (λ _ e. read c.args.end c.args.toks.now _ e)
       (λ f e. breaks c.args.end c.args.toks.now f e);
 }

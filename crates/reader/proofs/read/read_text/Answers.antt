@@ -5,23 +5,23 @@ use Rattle.reader.specs.Stages.{Parsed}
 use Rattle.reader.proofs.Asked.{is_scanned, not_scanned, is_parsed, not_parsed}
 use Rattle.reader.proofs.read.read_text.Goals as goal
 
-pub returns-in-err-tokens : goal.returns-in-err-tokens
-returns-in-err-tokens c =
-    let p = err_from_is_err_and c.from-residual.result c.from-residual.ensures.1 in
-    rw (p.1, p.2) (not_scanned c.args.text.now _ c.in-err-tokens.ensures)
+pub returns-in_err-tokens : goal.returns-in_err-tokens
+returns-in_err-tokens c =
+    let p = err_from_is_err_and c.from_residual.result c.from_residual.ensures.1 in
+    rw (p.1, p.2) (not_scanned c.args.text.now _ c.in_err-tokens.ensures)
 
-pub returns-in-err-rows : goal.returns-in-err-rows
-returns-in-err-rows c =
-    let p = err_from_is_err_and c.from-residual-in-err-rows.result c.from-residual-in-err-rows.ensures.1 in
-    let t = c.in-ok-tokens.tokens in
-    let so = is_scanned c.args.text.now (take t.len t.table) c.in-ok-tokens.ensures in
-    rw (p.1, p.2) (not_parsed c.args.text.now (take t.len t.table) so c.in-err-rows.field-0.0
-    (subst (λ l. Unparsed (length c.args.text.now) l c.in-err-rows.field-0.0) c.all.ensures c.in-err-rows.ensures))
+pub returns-in_err-rows : goal.returns-in_err-rows
+returns-in_err-rows c =
+    let p = err_from_is_err_and c.from_residual-in_err-rows.result c.from_residual-in_err-rows.ensures.1 in
+    let t = c.in_ok-tokens.tokens in
+    let so = is_scanned c.args.text.now (take t.len t.table) c.in_ok-tokens.ensures in
+    rw (p.1, p.2) (not_parsed c.args.text.now (take t.len t.table) so c.in_err-rows.field-0.0
+    (subst (λ l. Unparsed (length c.args.text.now) l c.in_err-rows.field-0.0) c.all.ensures c.in_err-rows.ensures))
 
 pub build-requires : goal.build-requires
 build-requires c =
-    let t = c.in-ok-tokens.tokens in
-    let r = c.in-ok-rows.rows in
-    let so = is_scanned c.args.text.now (take t.len t.table) c.in-ok-tokens.ensures in
+    let t = c.in_ok-tokens.tokens in
+    let r = c.in_ok-rows.rows in
+    let so = is_scanned c.args.text.now (take t.len t.table) c.in_ok-tokens.ensures in
     subst (Parsed c.args.text.now) (sym c.all-2.ensures)
-    (is_parsed c.args.text.now (take t.len t.table) so (take r.len r.table) (subst (λ l. Parses l (take r.len r.table)) c.all.ensures c.in-ok-rows.ensures))
+    (is_parsed c.args.text.now (take t.len t.table) so (take r.len r.table) (subst (λ l. Parses l (take r.len r.table)) c.all.ensures c.in_ok-rows.ensures))

@@ -11,46 +11,46 @@ use Rattle.script.proofs.Answers.{taken, by_answer}
 use Rattle.reader.proofs.Asked.{stop_7, stop_8, stop_9, stop_10, stop_11, all_names, all_cells, named}
 use Rattle.reader.proofs.stages.ask_names.Goals as goal
 
-pub returns-in-err-room : goal.returns-in-err-room
-returns-in-err-room c =
-    let p = err_from_is_err_and c.from-residual.result c.from-residual.ensures.1 in
-    rw (p.1, p.2) (stop_7 c.args.text.now c.args.rows.now c.requires _ c.in-err-room.ensures)
+pub returns-in_err-room : goal.returns-in_err-room
+returns-in_err-room c =
+    let p = err_from_is_err_and c.from_residual.result c.from_residual.ensures.1 in
+    rw (p.1, p.2) (stop_7 c.args.text.now c.args.rows.now c.requires _ c.in_err-room.ensures)
 
 pub once-requires : goal.once-requires
-once-requires c = few_declared c.args.rows.now (taken 7 _ c.in-ok-room.ensures)
+once-requires c = few_declared c.args.rows.now (taken 7 _ c.in_ok-room.ensures)
 
-pub returns-in-err-once : goal.returns-in-err-once
-returns-in-err-once c =
-    let p = err_from_is_err_and c.from-residual-in-err-once.result c.from-residual-in-err-once.ensures.1 in
-    rw (p.1, p.2) (stop_8 c.args.text.now c.args.rows.now c.requires c.in-ok-room.ensures _ c.in-err-once.ensures)
+pub returns-in_err-once : goal.returns-in_err-once
+returns-in_err-once c =
+    let p = err_from_is_err_and c.from_residual-in_err-once.result c.from_residual-in_err-once.ensures.1 in
+    rw (p.1, p.2) (stop_8 c.args.text.now c.args.rows.now c.requires c.in_ok-room.ensures _ c.in_err-once.ensures)
 
-pub returns-in-err-declared : goal.returns-in-err-declared
-returns-in-err-declared c =
-    let p = err_from_is_err_and c.from-residual-in-err-declared.result c.from-residual-in-err-declared.ensures.1 in
-    let e₇ = c.in-ok-room.ensures in
-    let l = c.names-of.ensures ∙ all_names c.args.text.now c.args.rows.now c.requires e₇ in
-    rw (p.1, p.2) (stop_9 c.args.text.now c.args.rows.now c.requires e₇ c.in-ok-once.ensures _
-    (c.in-err-declared.ensures ∙ ap (λ n. answer 9 (first_row (undeclared c.args.text.now n) c.args.rows.now)) l))
+pub returns-in_err-declared : goal.returns-in_err-declared
+returns-in_err-declared c =
+    let p = err_from_is_err_and c.from_residual-in_err-declared.result c.from_residual-in_err-declared.ensures.1 in
+    let e₇ = c.in_ok-room.ensures in
+    let l = c.names_of.ensures ∙ all_names c.args.text.now c.args.rows.now c.requires e₇ in
+    rw (p.1, p.2) (stop_9 c.args.text.now c.args.rows.now c.requires e₇ c.in_ok-once.ensures _
+    (c.in_err-declared.ensures ∙ ap (λ n. answer 9 (first_row (undeclared c.args.text.now n) c.args.rows.now)) l))
 
-pub returns-in-err-locals : goal.returns-in-err-locals
-returns-in-err-locals c =
-    let p = err_from_is_err_and c.from-residual-in-err-locals.result c.from-residual-in-err-locals.ensures.1 in
-    let e₇ = c.in-ok-room.ensures in
-    let l = c.names-of.ensures ∙ all_names c.args.text.now c.args.rows.now c.requires e₇ in
-    let k = c.cells-of.ensures ∙ all_cells c.args.text.now c.args.rows.now c.requires e₇ in
-    rw (p.1, p.2) (stop_10 c.args.text.now c.args.rows.now c.requires e₇ c.in-ok-once.ensures
-    (c.in-ok-declared.ensures ∙ ap (λ n. answer 9 (first_row (undeclared c.args.text.now n) c.args.rows.now)) l) _
-    (c.in-err-locals.ensures ∙ ap (λ n. answer 10 (into_cell c.args.text.now n no_row c.args.rows.now)) k))
+pub returns-in_err-locals : goal.returns-in_err-locals
+returns-in_err-locals c =
+    let p = err_from_is_err_and c.from_residual-in_err-locals.result c.from_residual-in_err-locals.ensures.1 in
+    let e₇ = c.in_ok-room.ensures in
+    let l = c.names_of.ensures ∙ all_names c.args.text.now c.args.rows.now c.requires e₇ in
+    let k = c.cells_of.ensures ∙ all_cells c.args.text.now c.args.rows.now c.requires e₇ in
+    rw (p.1, p.2) (stop_10 c.args.text.now c.args.rows.now c.requires e₇ c.in_ok-once.ensures
+    (c.in_ok-declared.ensures ∙ ap (λ n. answer 9 (first_row (undeclared c.args.text.now n) c.args.rows.now)) l) _
+    (c.in_err-locals.ensures ∙ ap (λ n. answer 10 (into_cell c.args.text.now n no_row c.args.rows.now)) k))
 
 pub returns : goal.returns
 returns c =
     let text = c.args.text.now in
     let rs = c.args.rows.now in
-    let e₇ = c.in-ok-room.ensures in
-    let l = c.names-of.ensures ∙ all_names text rs c.requires e₇ in
-    let k = c.cells-of.ensures ∙ all_cells text rs c.requires e₇ in
-    let e₉ = c.in-ok-declared.ensures ∙ ap (λ n. answer 9 (first_row (undeclared text n) rs)) l in
-    let e₁₀ = c.in-ok-locals.ensures ∙ ap (λ n. answer 10 (into_cell text n no_row rs)) k in
+    let e₇ = c.in_ok-room.ensures in
+    let l = c.names_of.ensures ∙ all_names text rs c.requires e₇ in
+    let k = c.cells_of.ensures ∙ all_cells text rs c.requires e₇ in
+    let e₉ = c.in_ok-declared.ensures ∙ ap (λ n. answer 9 (first_row (undeclared text n) rs)) l in
+    let e₁₀ = c.in_ok-locals.ensures ∙ ap (λ n. answer 10 (into_cell text n no_row rs)) k in
     by_answer 11 (first_row out_of_range rs) c.ranges-2.result (Named text rs) (FirstNo text) c.ranges-2.ensures
-    (named text rs c.requires e₇ c.in-ok-once.ensures e₉ e₁₀)
-    (stop_11 text rs c.requires e₇ c.in-ok-once.ensures e₉ e₁₀)
+    (named text rs c.requires e₇ c.in_ok-once.ensures e₉ e₁₀)
+    (stop_11 text rs c.requires e₇ c.in_ok-once.ensures e₉ e₁₀)

@@ -8,18 +8,18 @@ use Rattle.reader.proofs.stages.ask_script.Goals as goal
 long : (n : Names) → length (take n.len n.rows) ≡ n.len
 long n = let l = length-take n.len n.rows in omega (arith, l, n.short, n.long)
 
-pub returns-in-err-total : goal.returns-in-err-total
-returns-in-err-total c =
-    let p = err_from_is_err_and c.from-residual-in-err-total.result c.from-residual-in-err-total.ensures.1 in
-    let e = c.in-err-total.ensures in
-    rw (p.1, p.2) (stop_12 c.args.text.now c.args.rows.now c.requires c.in-ok-ask-names.ensures _ e.0 e.1)
+pub returns-in_err-total : goal.returns-in_err-total
+returns-in_err-total c =
+    let p = err_from_is_err_and c.from_residual-in_err-total.result c.from_residual-in_err-total.ensures.1 in
+    let e = c.in_err-total.ensures in
+    rw (p.1, p.2) (stop_12 c.args.text.now c.args.rows.now c.requires c.in_ok-ask_names.ensures _ e.0 e.1)
 
-pub overflow-sub-locals : goal.overflow-sub-locals
-overflow-sub-locals c =
-    more_names c.args.text.now c.args.rows.now c.requires c.in-ok-ask-names.ensures _ _ _
-    c.names-of-names.ensures (long c.names-of-names.result) (sym (long c.cells-of-cells.result) ∙ ap length c.cells-of-cells.ensures)
+pub overflow_sub-locals : goal.overflow_sub-locals
+overflow_sub-locals c =
+    more_names c.args.text.now c.args.rows.now c.requires c.in_ok-ask_names.ensures _ _ _
+    c.names_of-names.ensures (long c.names_of-names.result) (sym (long c.cells_of-cells.result) ∙ ap length c.cells_of-cells.ensures)
 
 pub returns : goal.returns
 returns c =
-    counted_all c.args.text.now c.args.rows.now c.requires c.in-ok-ask-names.ensures _ _ _ _ _ c.in-ok-total.ensures
-    c.names-of-names.ensures (long c.names-of-names.result) (sym (long c.cells-of-cells.result) ∙ ap length c.cells-of-cells.ensures)
+    counted_all c.args.text.now c.args.rows.now c.requires c.in_ok-ask_names.ensures _ _ _ _ _ c.in_ok-total.ensures
+    c.names_of-names.ensures (long c.names_of-names.result) (sym (long c.cells_of-cells.result) ∙ ap length c.cells_of-cells.ensures)

@@ -9,7 +9,7 @@ loop-i-preserved c =
     let i = c.loop-i.invariant in (
       length-set c.loop-i.table c.loop-i.i _ ∙ i.0,
       take_more_set c.loop-i.table c.loop-i.i _ (omega (arith, i.0, c.loop-i-test.true, c.requires))
-          ∙ (λ j. i.1 j ++ c.number-one.ensures j ∷ [])
+          ∙ (λ j. i.1 j ++ c.number_one.ensures j ∷ [])
           ∙ sym (map_more f c.args.rows.now c.loop-i.i _ c.loop-i-test.true),
     )
 

@@ -9,14 +9,14 @@ pub loop-row-init : goal.loop-row-init
 loop-row-init c = (ap (λ l. twice c.args.text.now l c.args.rows.now) c.none-seen.ensures, omega (arith, ap length c.none-seen.ensures, c.requires))
 
 pub returns-then-has : goal.returns-then-has
-returns-then-has c = ap Err c.new.ensures ∙ twice_here c.args.text.now c.args.rows.now _ c.loop-row.row-index c.loop-row.invariant c.loop-row-test.true _ c.if-declares-name.ensures c.if-has.ensures
+returns-then-has c = ap Err c.new.ensures ∙ twice_here c.args.text.now c.args.rows.now _ c.loop-row.row-index c.loop-row.invariant c.loop-row-test.true _ c.if-declares_name.ensures c.if-has.ensures
 
 pub loop-row-preserved : goal.loop-row-preserved
 loop-row-preserved c =
     let P : Names → Type 0 = λ s. Once c.args.text.now c.args.rows.now (take s.len s.rows) (c.loop-row.row-index + 1) in
-    elim c.if-declares-name.branch [
-      | then-declares-name+else-has w ↦ subst P (sym w.seen-is) (once_more c.args.text.now c.args.rows.now _ c.loop-row.row-index c.loop-row.invariant c.loop-row-test.true _ _ w.if-declares-name.ensures w.if-has.ensures w.push.ensures)
-      | else-declares-name w ↦ subst P (sym w.seen-is) (once_past c.args.text.now c.args.rows.now _ c.loop-row.row-index c.loop-row.invariant c.loop-row-test.true _ w.if-declares-name.ensures)
+    elim c.if-declares_name.branch [
+      | then-declares-name+else-has w ↦ subst P (sym w.seen-is) (once_more c.args.text.now c.args.rows.now _ c.loop-row.row-index c.loop-row.invariant c.loop-row-test.true _ _ w.if-declares_name.ensures w.if-has.ensures w.push.ensures)
+      | else-declares-name w ↦ subst P (sym w.seen-is) (once_past c.args.text.now c.args.rows.now _ c.loop-row.row-index c.loop-row.invariant c.loop-row-test.true _ w.if-declares_name.ensures)
     ]
 
 pub returns : goal.returns

@@ -7,4 +7,4 @@ use Rattle.reader.proofs.script.Script.declared.Goals as goal
 pub returns : goal.returns
 returns c =
     let h = c.args.self.now in
-    c.numbers-of.ensures ∙ ap (λ l. take 64 (listed false l)) c.rows.ensures ∙ all_declared (rows_in h) h.whole (omega (arith, h.cells_are, h.few_cells))
+    c.numbers_of.ensures ∙ ap (λ l. take 64 (listed false l)) c.rows.ensures ∙ all_declared (rows_in h) h.whole (omega (arith, h.cells_are, h.few_cells))

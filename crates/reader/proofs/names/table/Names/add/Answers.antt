@@ -12,9 +12,9 @@ loop-row-init c = refl
 pub loop-row-preserved : goal.loop-row-preserved
 loop-row-preserved c =
     let P : Names → Type 0 = λ s. Added (wanted c.args.kind) c.args.rows.now (take c.args.self.now.len c.args.self.now.rows) (take s.len s.rows) (c.loop-row.row-index + 1) in
-    elim c.if-is-wanted.branch [
-      | then-is-wanted w ↦ subst P (sym w.self-is) (added_one (wanted c.args.kind) c.args.rows.now _ _ _ c.loop-row.invariant c.loop-row-test.true _ _ w.if-is-wanted.ensures w.push.ensures)
-      | else-is-wanted w ↦ subst P (sym w.self-is) (added_past (wanted c.args.kind) c.args.rows.now _ _ _ c.loop-row.invariant c.loop-row-test.true _ w.if-is-wanted.ensures)
+    elim c.if-is_wanted.branch [
+      | then-is-wanted w ↦ subst P (sym w.self-is) (added_one (wanted c.args.kind) c.args.rows.now _ _ _ c.loop-row.invariant c.loop-row-test.true _ _ w.if-is_wanted.ensures w.push.ensures)
+      | else-is-wanted w ↦ subst P (sym w.self-is) (added_past (wanted c.args.kind) c.args.rows.now _ _ _ c.loop-row.invariant c.loop-row-test.true _ w.if-is_wanted.ensures)
     ]
 
 pub returns : goal.returns
