@@ -15,7 +15,7 @@ use crate::buffer::Double;
 use crate::halves::Halves;
 use memory::cells::first_cells;
 use memory::{Memory, Spent};
-use reader::script::Script;
+use reader::drive::Script;
 use script::fault::Fault;
 
 // The words of a new double buffer.

@@ -6,8 +6,8 @@ use Rattle.script.specs.declared.row.Row.{Row}
 use Rattle.script.specs.Syntax.{Leaf, Expr, alone, less, same, Sum, sum, Terms, no_term, plus, minus, Term, term, Factors, no_factor, times, over, Factor, number, negative, name, paren}
 use Rattle.script.specs.Written.{row, text_expr, text_sum, text_terms, text_term, text_factors, text_factor}
 use Rattle.script.specs.Values.{wrapped, quotient, truth, equal, value, value_sum, more_terms, value_term, more_factors, value_factor}
-use Rattle.check.specs.Limits.{shallow}
-use Rattle.check.proofs.Exprs.{and_true, shallow_rows, shallow_sum, shallow_terms, shallow_term, shallow_factors, shallow_factor}
+use Rattle.checker.specs.Limits.{shallow}
+use Rattle.checker.proofs.Exprs.{and_true, shallow_rows, shallow_sum, shallow_terms, shallow_term, shallow_factors, shallow_factor}
 use Rattle.evaluate.specs.declared.level.Side.{Side}
 use Rattle.evaluate.specs.declared.level.Side.TheVariants as side
 use Rattle.evaluate.specs.declared.level.Sign.{Sign}

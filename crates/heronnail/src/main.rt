@@ -7,7 +7,7 @@ ghost use Rattle.std.specs.Prelude.{◌≤◌, length, IfOk};
 mod show;
 
 use anyhow::anyhow;
-use check::accepted::Accepted;
+use checker::accepted::Accepted;
 use show::print_refusal;
 use std::io::Read;
 use std::{env, fs, io};

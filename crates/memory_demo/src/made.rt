@@ -1,7 +1,7 @@
 // Memories made for a script with the numbers that its cells are declared with.
 use double::buffer::Double;
 use memory::Memory;
-use reader::script::Script;
+use reader::drive::Script;
 use std::process::Abort;
 use undo::log::Undo;
 

@@ -239,6 +239,14 @@ module _ (text : List ℕ) (rs : List Row) (so : Parsed text rs) where
     says_not : F rs ≡ None → (p : ℕ) → (s : Script) × Reads text s × (F (rows s) ≡ Some p) → ⊥
     says_not e p h = none_some (F rs) p e (ap F (sym (same_rows h.0 h.1)) ∙ h.2)
 
+  -- a text that has passed question 11 has no number out of range
+  pub ranged_of : Passes 13 text → first_row out_of_range rs ≡ None
+  ranged_of pass = by (first_row out_of_range rs) refl
+    where
+      by : (o : Option ℕ) → first_row out_of_range rs ≡ o → first_row out_of_range rs ≡ None
+      by None e = e
+      by (Some p) e = absurd (pass numbers_in_range p (omega arith) (says (first_row out_of_range) p e))
+
   pub stop_7 : (f : Fault) → Err f ≡ answer 7 (crowded 0 0 rs) → FirstNo text f
   stop_7 f e = let r = refused 7 (crowded 0 0 rs) f e in (names_few, r.1, says (crowded 0 0) _ r.0, so.pass)
 
@@ -283,7 +291,7 @@ module _ (text : List ℕ) (rs : List Row) (so : Parsed text rs) where
           stop_11 f e = let r = refused 11 (first_row out_of_range rs) f e in (numbers_in_range, r.1, says (first_row out_of_range) _ r.0, pass_10)
 
           pub named : Ok tt ≡ answer 11 (first_row out_of_range rs) → Named text rs
-          named e = record { room = taken 7 _ e₇; ranged = taken 11 _ e; pass = passes_more text numbers_in_range pass_10 (says_not (first_row out_of_range) (taken 11 _ e)) }
+          named e = record { room = taken 7 _ e₇; pass = passes_more text numbers_in_range pass_10 (says_not (first_row out_of_range) (taken 11 _ e)) }
 
 -- ---- 12
 
@@ -328,7 +336,6 @@ module _ (text : List ℕ) (rs : List Row) (so : Parsed text rs) (no_less : Name
         record {
           names_are = is ∙ all;
           names_few = few;
-          ranged = no_less.ranged;
           cells_are = k ∙ cells_count;
           locals_are = l ∙ locals_count;
           cells_few = omega (arith, k, fc);

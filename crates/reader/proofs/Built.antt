@@ -16,6 +16,7 @@ use Rattle.parser.proofs.Reading.{whole}
 use Rattle.script.specs.Steps.{cells, locals, steps_of, readings_of}
 use Rattle.reader.specs.Holding.{Holds}
 use Rattle.reader.specs.Stages.{Parsed, Counted}
+use Rattle.reader.proofs.Asked.{ranged_of}
 use Rattle.reader.proofs.Declared.{each_numbered}
 use Rattle.reader.proofs.Repeats.{counts_kept}
 use Rattle.reader.proofs.Numbers.{numbers_kept}
@@ -80,7 +81,7 @@ module _ (text : List ℕ) (rs found : List Row) (a b c d : ℕ) (so : Parsed te
   given_fits = ap all_numbered is_given ∙ each_numbered text rs k.names_few
 
   pub given_repeats : all_repeat Given ≡ true
-  given_repeats = counts_kept text found rs k.ranged
+  given_repeats = counts_kept text found rs (ranged_of text rs so k.pass)
 
   pub given_small : all_fit Given ≡ true
   given_small = numbers_kept text rs found so

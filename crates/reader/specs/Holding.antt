@@ -6,7 +6,7 @@ use Rattle.script.specs.Written.{rows}
 use Rattle.script.specs.Decode.{decode}
 use Rattle.script.specs.Names.{number_all}
 use Rattle.script.specs.Questions.{Question, No, Reads}
-use Rattle.reader.specs.declared.script.Script.{Script as Held}
+use Rattle.reader.specs.declared.drive.Script.{Script as Held}
 
 -- the rows that a script holds, and the syntax that they mean
 abbrev pub rows_in : Held → List Row

@@ -6,8 +6,8 @@ ghost use Rattle.script.specs.Roles.{is};
 ghost use Rattle.reader.specs.Listed.{signed as SignedOf, listed, numbers_in};
 ghost use Rattle.reader.specs.Holding.{syntax};
 
+use crate::drive::Script;
 use crate::firsts::Declared;
-use crate::script::Script;
 use script::row::{Role, Row};
 
 impl Declared {

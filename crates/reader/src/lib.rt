@@ -5,9 +5,9 @@
 
 pub mod cells;
 mod count;
+pub mod drive;
 pub mod firsts;
 mod names;
 pub mod read;
-pub mod script;
 mod stages;
 mod tally;

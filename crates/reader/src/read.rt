@@ -6,8 +6,8 @@ ghost use Rattle.script.specs.Written.{rows as rows_of};
 ghost use Rattle.reader.specs.Holding.{Holds, rows_in, syntax, empty};
 ghost use Rattle.reader.specs.Stages.{Parsed};
 
+use crate::drive::Script;
 use crate::names::ask::number_all;
-use crate::script::Script;
 use crate::stages::{Found, ask_script};
 use lexer::tokens::Tokens;
 use parser::rows::Rows;

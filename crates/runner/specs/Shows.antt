@@ -5,7 +5,7 @@ use Rattle.script.specs.declared.row.Row.{Row}
 use Rattle.script.specs.Syntax.{Leaf, Block, code, nothing}
 use Rattle.script.specs.Written.{row, text}
 use Rattle.script.specs.Stand.{assigned}
-use Rattle.check.specs.Limits.{shallow}
+use Rattle.checker.specs.Limits.{shallow}
 use Rattle.memory.specs.Model.{Model}
 use Rattle.place.specs.declared.types.Frame.{Frame}
 use Rattle.place.specs.declared.types.Frame.TheVariants as frame

@@ -2,7 +2,7 @@
 ghost use Rattle.std.specs.Prelude.{◌≡◌, ◌*◌, ◌≤◌, length};
 
 use place::types::{Oldest, Place};
-use reader::script::Script;
+use reader::drive::Script;
 
 // A script, and which of its names are declared fresh.
 #[derive(Clone, Copy)]

@@ -6,7 +6,7 @@ use Rattle.script.specs.declared.standing.Standing.{Standing}
 use Rattle.script.specs.declared.standing.Standing.TheVariants.{Clean, Now, Old}
 use Rattle.script.specs.Syntax.{Leaf}
 use Rattle.script.specs.Stand.{Table, higher, highest, raised, older, reading_at}
-use Rattle.check.specs.Order.{rank, Le}
+use Rattle.checker.specs.Order.{rank, Le}
 use Rattle.runs.specs.declared.types.Reading.{Reading}
 use Rattle.runs.specs.Behind.{Behind, behind_all, joined, AllIn}
 

@@ -9,7 +9,7 @@ use Rattle.script.specs.Unbroken.{is_zero}
 use Rattle.memory.specs.Meaning.{Meaning}
 use Rattle.memory.specs.Calls.{Call, Put, Open, Close, can, goal, Obeyed}
 use Rattle.memory.specs.Model.{Model, Lawful}
-use Rattle.check.proofs.Order.{empty_left}
+use Rattle.checker.proofs.Order.{empty_left}
 use Rattle.runs.specs.declared.types.Reading.{Reading}
 use Rattle.runs.specs.Behind.{Behind, Used, Fresh}
 use Rattle.runs.specs.Machine.{Item, block, turn, join, close, Point, point, State, Job, with_at, with_saved, with_memory, with_uses, leaving, paid, free, worth, assign_step, turn_step, open_step, close_step, block_step, step_of, step, taken}

@@ -8,7 +8,7 @@ use Rattle.script.specs.declared.standing.Standing.TheVariants.{Clean, Now, Old}
 use Rattle.script.specs.Syntax.{Leaf, Code, nothing, put, read, fork, turns, region, uses}
 use Rattle.script.specs.Steps.{repeats}
 use Rattle.script.specs.Stand.{Table, raised, older, walk, is_old, olds, refused}
-use Rattle.check.specs.Order.{Le}
+use Rattle.checker.specs.Order.{Le}
 use Rattle.runs.specs.declared.types.Reading.{Reading}
 use Rattle.runs.specs.Behind.{Behind, joined, used, Fresh}
 use Rattle.runs.specs.Machine.{Item, block, turn, join, close, tidied}

@@ -4,8 +4,8 @@ use Rattle.std.proofs.lemmas.Bool.{and_parts}
 use Rattle.script.specs.Syntax.{Leaf, Expr, reads, Code, nothing, put, read, fork, turns, region, uses}
 use Rattle.script.specs.Steps.{repeats}
 use Rattle.script.specs.Stand.{Table, both, of_expr, older, assigned, settle, walk, olds, uses_in, walks, refused}
-use Rattle.check.specs.Order.{Le}
-use Rattle.check.proofs.Order.{le_refl, le_trans, both_left, both_right, le_raised, length_walk, settle_up, settle_end, empty_left, empty_right, last_walk}
+use Rattle.checker.specs.Order.{Le}
+use Rattle.checker.proofs.Order.{le_refl, le_trans, both_left, both_right, le_raised, length_walk, settle_up, settle_end, empty_left, empty_right, last_walk}
 use Rattle.runs.specs.declared.types.Reading.{Reading}
 use Rattle.runs.specs.Behind.{Behind, behind_all}
 use Rattle.runs.specs.Machine.{Item, block, turn, join, close}

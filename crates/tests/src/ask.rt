@@ -1,6 +1,6 @@
 // What the tests ask of a script.
-use check::accepted::Accepted;
-use reader::script::Script;
+use checker::accepted::Accepted;
+use reader::drive::Script;
 use script::fault::{Fault, Layer};
 use std::alloc::{AllocError, Global};
 use std::process::Abort;

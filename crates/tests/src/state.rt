@@ -1,7 +1,7 @@
 // A refusal leaves what it refused to change.
 use crate::ask::{ACCEPTED, Verdict, counts, of_answer};
-use check::accepted::Accepted;
-use reader::script::Script;
+use checker::accepted::Accepted;
+use reader::drive::Script;
 use std::process::Abort;
 
 const TAKEN: &[u8] = b"cell c = 0; fresh x; main { atomic { x = in 12; c = x; } }";

@@ -15,7 +15,7 @@ use crate::log::Undo;
 use crate::words::Words;
 use memory::cells::first_cells;
 use memory::{Memory, Spent};
-use reader::script::Script;
+use reader::drive::Script;
 use script::fault::Fault;
 
 // The words of a new log.

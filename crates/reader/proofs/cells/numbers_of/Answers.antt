@@ -4,7 +4,7 @@ use Rattle.reader.specs.declared.firsts.Declared.{Declared}
 use Rattle.reader.specs.Listed.{numbers_in}
 use Rattle.reader.proofs.Numbers.{cell_fits, Found, found_main, found_past, found_one, found_all}
 use Rattle.reader.proofs.cells.numbers_of.Goals as goal
-use Rattle.reader.proofs.cells.numbers_of.Goals.{then-is-number, else-is-number}
+use Rattle.reader.proofs.cells.numbers_of.Goals.{then-is_number, else-is_number}
 
 few : (d : Declared) → length (numbers_in d) ≤ 64
 few d = let l = length-take d.len d.values in omega (arith, l, d.few)
@@ -23,10 +23,10 @@ loop-row-preserved c =
     let before = numbers_in c.loop-row.found in
     let P : Declared → Type 0 = λ d. Found rs (numbers_in d) c.is_minus-minus.result (i + 1) in
     elim c.if-is_number.branch [
-      | then-is-number w ↦
+      | then-is_number w ↦
           let f : SFits w32 w.signed.result = search rules in
           subst P (sym w.found-is) (found_one rs before c.loop-row.minus i c.loop-row.invariant c.loop-row-test.true _ _ _ _ c.if-is_main.ensures w.if-is_number.ensures c.is_minus-minus.ensures (to_z-of_z w32 _ f ∙ w.signed.ensures) w.push.ensures)
-      | else-is-number w ↦ subst P (sym w.found-is) (found_past rs before c.loop-row.minus i c.loop-row.invariant c.loop-row-test.true _ _ c.if-is_main.ensures w.if-is_number.ensures c.is_minus-minus.ensures)
+      | else-is_number w ↦ subst P (sym w.found-is) (found_past rs before c.loop-row.minus i c.loop-row.invariant c.loop-row-test.true _ _ c.if-is_main.ensures w.if-is_number.ensures c.is_minus-minus.ensures)
     ]
 
 pub returns : goal.returns

@@ -10,40 +10,7 @@ invariant_of-result c =
     let found = take d.names.len d.names.rows in
     let k = c.in_ok-names.ensures in
     let e = c.number_all-table.ensures in
-    let l = take (length rs) c.number_all-table.result in (
-      search rules,
-      (
-        c.requires.few,
-        (
-          list_whole text rs found _ _ _ _ c.requires k l e,
-          (
-            list_nested text rs found _ _ _ _ c.requires k l e,
-            (
-              list_fits text rs found _ _ _ _ c.requires k l e,
-              (
-                list_repeats text rs found _ _ _ _ c.requires k l e,
-                (
-                  list_small text rs found _ _ _ _ c.requires k l e,
-                  (
-                    list_cells text rs found _ _ _ _ c.requires k l e,
-                    (
-                      list_locals text rs found _ _ _ _ c.requires k l e,
-                      (
-                        list_steps text rs found _ _ _ _ c.requires k l e,
-                        (
-                          list_readings text rs found _ _ _ _ c.requires k l e,
-                          (k.cells_few, (k.locals_few, (k.steps_few, (k.readings_few, tt)))),
-                        ),
-                      ),
-                    ),
-                  ),
-                ),
-              ),
-            ),
-          ),
-        ),
-      ),
-    )
+    let l = take (length rs) c.number_all-table.result in record { long = search rules; short = c.requires.few; whole = list_whole text rs found _ _ _ _ c.requires k l e; nested = list_nested text rs found _ _ _ _ c.requires k l e; fits = list_fits text rs found _ _ _ _ c.requires k l e; repeats = list_repeats text rs found _ _ _ _ c.requires k l e; small = list_small text rs found _ _ _ _ c.requires k l e; cells_are = list_cells text rs found _ _ _ _ c.requires k l e; locals_are = list_locals text rs found _ _ _ _ c.requires k l e; steps_are = list_steps text rs found _ _ _ _ c.requires k l e; readings_are = list_readings text rs found _ _ _ _ c.requires k l e; few_cells = k.cells_few; few_locals = k.locals_few; few_steps = k.steps_few; few_readings = k.readings_few }
 
 pub returns : goal.returns
 returns c =

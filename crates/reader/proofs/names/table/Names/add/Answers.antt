@@ -4,7 +4,7 @@ use Rattle.reader.specs.declared.names.table.Names.{Names}
 use Rattle.reader.specs.Wanted.{wanted}
 use Rattle.reader.proofs.Listing.{Added, added_past, added_one, added_all}
 use Rattle.reader.proofs.names.table.Names.add.Goals as goal
-use Rattle.reader.proofs.names.table.Names.add.Goals.{then-is-wanted, else-is-wanted}
+use Rattle.reader.proofs.names.table.Names.add.Goals.{then-is_wanted, else-is_wanted}
 
 pub loop-row-init : goal.loop-row-init
 loop-row-init c = refl
@@ -13,8 +13,8 @@ pub loop-row-preserved : goal.loop-row-preserved
 loop-row-preserved c =
     let P : Names → Type 0 = λ s. Added (wanted c.args.kind) c.args.rows.now (take c.args.self.now.len c.args.self.now.rows) (take s.len s.rows) (c.loop-row.row-index + 1) in
     elim c.if-is_wanted.branch [
-      | then-is-wanted w ↦ subst P (sym w.self-is) (added_one (wanted c.args.kind) c.args.rows.now _ _ _ c.loop-row.invariant c.loop-row-test.true _ _ w.if-is_wanted.ensures w.push.ensures)
-      | else-is-wanted w ↦ subst P (sym w.self-is) (added_past (wanted c.args.kind) c.args.rows.now _ _ _ c.loop-row.invariant c.loop-row-test.true _ w.if-is_wanted.ensures)
+      | then-is_wanted w ↦ subst P (sym w.self-is) (added_one (wanted c.args.kind) c.args.rows.now _ _ _ c.loop-row.invariant c.loop-row-test.true _ _ w.if-is_wanted.ensures w.push.ensures)
+      | else-is_wanted w ↦ subst P (sym w.self-is) (added_past (wanted c.args.kind) c.args.rows.now _ _ _ c.loop-row.invariant c.loop-row-test.true _ w.if-is_wanted.ensures)
     ]
 
 pub returns : goal.returns

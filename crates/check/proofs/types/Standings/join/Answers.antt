@@ -1,6 +1,0 @@
-use Rattle.std.proofs.Common.{arith}
-use Rattle.check.proofs.Tables.{both_all}
-use Rattle.check.proofs.types.Standings.join.Goals as goal
-
-pub returns : goal.returns
-returns c = both_all c.args.self.now.of c.loop-i.self.of c.args.with.now.of _ c.loop-i.invariant (omega (arith, c.args.self.now.long))

@@ -1,0 +1,8 @@
+use Rattle.std.proofs.Common.{get_or}
+use Rattle.script.specs.Stand.{higher}
+use Rattle.script.specs.declared.standing.Standing.TheVariants.{Clean}
+use Rattle.checker.proofs.Tables.{Partly}
+use Rattle.checker.proofs.types.Standings.join.Given as goal
+
+abbrev pub invariant-loop-i : goal.invariant-loop-i
+invariant-loop-i l = Partly (λ k. higher (get_or l.initial.self.of k Clean) (get_or l.with.of k Clean)) l.initial.self.of l.self.of l.i
