@@ -6,9 +6,3 @@ use Rattle.double.specs.declared.halves.Halves.{Halves}
 
 pub two_of : (u : Double) → Two64 u.words
 two_of u = record { small = u.small; first = u.first; second = u.second; state = u.flag }
-
-abbrev pub Fields : Halves → Type 0
-Fields w = (w.count ≤ 64) × ((length w.first ≡ 64) × ((length w.second ≡ 64) × ((w.state ≤ 3) × Unit {0})))
-
-pub fields : {w : Halves} → Two64 w → Fields w
-fields l = (l.small, (l.first, (l.second, (l.state, tt))))

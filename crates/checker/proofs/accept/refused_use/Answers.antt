@@ -8,7 +8,7 @@ pub returns : goal.returns
 returns c =
     let s = c.args.script.now in
     let e = c.rows.ensures in
-    c.first-refused.ensures (syntax s) (e ∙ s.whole)
+    c.first_refused.ensures (syntax s) (e ∙ s.whole)
     (omega (arith, ap length e, length-take s.len s.rows, s.short, s.long))
     (ap (shallow 0) e ∙ within_16 0 (take s.len s.rows) (none_nested _ s.nested))
     (ap numbered e ∙ within_128 (take s.len s.rows) s.fits)

@@ -6,5 +6,5 @@ use Rattle.double.proofs.calls.copy.Goals as goal
 
 pub loop-k-preserved : goal.loop-k-preserved
 loop-k-preserved c =
-    let f : SFits w32 c.read-half-x.result = search rules in
-    (omega arith, omega arith, copy_step c.args.w.now c.loop-k.w c.write-half.new.w c.loop-k.k c.in-force-from.result c.read-half-x.result (omega arith) c.loop-k.invariant.2 c.in-force-from.ensures c.read-half-x.ensures (c.write-half.ensures ∙ ap (λ (y : ℤ). with_half c.loop-k.w (not c.in-force-from.result) (set (half c.loop-k.w (not c.in-force-from.result)) c.loop-k.k y)) (to_z-of_z w32 c.read-half-x.result f)))
+    let f : SFits w32 c.read_half-x.result = search rules in
+    (omega arith, omega arith, copy_step c.args.w.now c.loop-k.w c.write_half.new.w c.loop-k.k c.in_force-from.result c.read_half-x.result (omega arith) c.loop-k.invariant.2 c.in_force-from.ensures c.read_half-x.ensures (c.write_half.ensures ∙ ap (λ (y : ℤ). with_half c.loop-k.w (not c.in_force-from.result) (set (half c.loop-k.w (not c.in_force-from.result)) c.loop-k.k y)) (to_z-of_z w32 c.read_half-x.result f)))

@@ -7,8 +7,8 @@ use Rattle.checker.proofs.Accepting.{region_accepted, apart_names_accepted}
 use Rattle.checker.proofs.Mono.{never_lowers, settles_least, last_walks_tell}
 use Rattle.checker.proofs.accepted.Accepted.accept.Goals as goal
 
-pub invariant-of-self : goal.invariant-of-self
-invariant-of-self c = (none_refused (all_refused (syntax c.args.script.now)) (sym c.in-None.ensures), tt)
+pub invariant_of-self : goal.invariant_of-self
+invariant_of-self c = record { passed = none_refused (all_refused (syntax c.args.script.now)) (sym c.in-None.ensures) }
 
 pub returns-in-Some : goal.returns-in-Some
 returns-in-Some c =
@@ -20,7 +20,7 @@ returns-in-Some c =
       apart = apart_names_accepted s _ e;
       never_lowers = never_lowers;
       settles_least = settles_least;
-      last-walks = last_walks_tell;
+      last_walks = last_walks_tell;
       after = refl;
     }
 
@@ -34,6 +34,6 @@ returns-in-None c =
       apart = apart_names_accepted s _ e;
       never_lowers = never_lowers;
       settles_least = settles_least;
-      last-walks = last_walks_tell;
+      last_walks = last_walks_tell;
       after = refl;
     }

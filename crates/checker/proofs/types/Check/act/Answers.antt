@@ -8,12 +8,12 @@ pub returns-in-WhenClose : goal.returns-in-WhenClose
 returns-in-WhenClose c =
     let all = c.args.rows.now in
     let rs = drop (c.args.at + 1) all in
-    c.join-entry.ensures (c.args.r ∷ rs) (length_here all c.args.at c.args.r c.requires)
+    c.join_entry.ensures (c.args.r ∷ rs) (length_here all c.args.at c.args.r c.requires)
     ∙ sym (ap (λ k. acts k c.args.r rs (state_of all c.args.self.now)) c.in-WhenClose.is)
 
 pub returns-in-ElseClose : goal.returns-in-ElseClose
 returns-in-ElseClose c =
     let all = c.args.rows.now in
     let rs = drop (c.args.at + 1) all in
-    c.join-ends.ensures (c.args.r ∷ rs) (length_here all c.args.at c.args.r c.requires)
+    c.join_ends.ensures (c.args.r ∷ rs) (length_here all c.args.at c.args.r c.requires)
     ∙ sym (ap (λ k. acts k c.args.r rs (state_of all c.args.self.now)) c.in-ElseClose.is)

@@ -6,11 +6,11 @@ use Rattle.checker.proofs.types.Check.enter.Goals as goal
 
 pub returns-then-n-lt512 : goal.returns-then-n-lt512
 returns-then-n-lt512 c = λ all.
-    let R = state_of all c.note-rise.new.self in
+    let R = state_of all c.note_rise.new.self in
     let n = c.open.new.self.number in
-    enter_room (state_of all c.args.self.now) (state_of all c.open.new.self) R _ (get_or c.open.new.self.entries n c.index-self-n.result).of (drop c.args.from all) (c.open.ensures all) (c.note-rise.ensures all)
-    ((λ j. with_number (n + 1) (with_entries (entries_set c.note-rise.new.self.entries n c.join.new.self j) (with_table c.join.new.self.of R)))
-    ∙ (λ j. with_number (n + 1) (with_entries (set (tables c.note-rise.new.self.entries) n (c.join.ensures j)) (with_table (c.join.ensures j) R))))
+    enter_room (state_of all c.args.self.now) (state_of all c.open.new.self) R _ (get_or c.open.new.self.entries n c.index-self-n.result).of (drop c.args.from all) (c.open.ensures all) (c.note_rise.ensures all)
+    ((λ j. with_number (n + 1) (with_entries (entries_set c.note_rise.new.self.entries n c.join.new.self j) (with_table c.join.new.self.of R)))
+    ∙ (λ j. with_number (n + 1) (with_entries (set (tables c.note_rise.new.self.entries) n (c.join.ensures j)) (with_table (c.join.ensures j) R))))
     c.if-n-lt512.true
     (entries_get c.open.new.self.entries n c.index-self-n.result _ (omega (arith, c.if-n-lt512.true, c.open.new.self.places)))
 

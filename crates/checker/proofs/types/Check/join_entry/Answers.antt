@@ -8,4 +8,4 @@ pub returns : goal.returns
 returns c = λ here l.
     let all = c.args.rows.now in
     entry_joined all c.args.at here (state_of all c.args.self.now) (state_of all c.pop.new.self) (with_table c.join.new.self.of (state_of all c.pop.new.self)) _ c.in-Some.f (c.in-Some.ensures all)
-    (λ j. with_table (c.join.ensures j) (state_of all c.pop.new.self)) (c.raise-between.ensures all) (omega (arith, c.requires)) l
+    (λ j. with_table (c.join.ensures j) (state_of all c.pop.new.self)) (c.raise_between.ensures all) (omega (arith, c.requires)) l

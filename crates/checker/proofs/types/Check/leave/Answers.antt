@@ -6,11 +6,11 @@ use Rattle.checker.proofs.types.Check.leave.Goals as goal
 
 pub returns-then-f-lt512 : goal.returns-then-f-lt512
 returns-then-f-lt512 c = λ all.
-    let R = state_of all c.note-rise.new.self in
+    let R = state_of all c.note_rise.new.self in
     let n = c.in-Some.f.number in
-    leave_room (state_of all c.args.self.now) (state_of all c.pop.new.self) R _ (frame_of all c.in-Some.f) (get_or c.pop.new.self.entries n c.index-self-f.result).of (c.in-Some.ensures all) (c.note-rise.ensures all)
-    ((λ j. with_entries (entries_set c.note-rise.new.self.entries n c.join.new.self j) R)
-    ∙ (λ j. with_entries (set (tables c.note-rise.new.self.entries) n (c.join.ensures j)) R))
+    leave_room (state_of all c.args.self.now) (state_of all c.pop.new.self) R _ (frame_of all c.in-Some.f) (get_or c.pop.new.self.entries n c.index-self-f.result).of (c.in-Some.ensures all) (c.note_rise.ensures all)
+    ((λ j. with_entries (entries_set c.note_rise.new.self.entries n c.join.new.self j) R)
+    ∙ (λ j. with_entries (set (tables c.note_rise.new.self.entries) n (c.join.ensures j)) R))
     (entries_get c.pop.new.self.entries n c.index-self-f.result _ (omega (arith, c.if-f-lt512.true, c.pop.new.self.places)))
 
 pub returns-else-f-lt512 : goal.returns-else-f-lt512

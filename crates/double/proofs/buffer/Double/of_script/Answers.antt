@@ -5,13 +5,13 @@ use Rattle.memory.proofs.Filling.{few_of}
 use Rattle.double.specs.Buffer.{Two64, meaning_of}
 use Rattle.double.specs.Made.{first_halves}
 use Rattle.double.specs.Works.{first_two, first_means}
-use Rattle.double.specs.Fit.{fields}
 use Rattle.double.proofs.buffer.Double.of_script.Goals as goal
 
-pub invariant-of-result : goal.invariant-of-result
-invariant-of-result c =
+pub invariant_of-result : goal.invariant_of-result
+invariant_of-result c =
     let e = few_of _ c.unwrap-words.result (first_halves _) (sym c.unwrap-words.ensures ∙ c.made.ensures) in
-    fields (subst Two64 (sym e.1) (first_two _ e.0))
+    let g = subst Two64 (sym e.1) (first_two _ e.0) in
+    record { small = g.small; first = g.first; second = g.second; flag = g.state }
 
 pub returns : goal.returns
 returns c =

@@ -4,19 +4,21 @@ use Rattle.memory.specs.Plan.{applied}
 use Rattle.double.specs.declared.halves.Halves.{Halves}
 use Rattle.double.specs.Buffer.{Two64, write, open_word, Flag}
 use Rattle.double.specs.Works.{open_fines, open_last, open_is, closed_of, opening, flag_fine, cut_open}
-use Rattle.double.specs.Fit.{two_of, fields}
+use Rattle.double.specs.Fit.{two_of}
 use Rattle.double.proofs.calls.DoubleMemory.open.Goals as goal
 
-pub invariant-of-self : goal.invariant-of-self
-invariant-of-self c =
+pub invariant_of-self : goal.invariant_of-self
+invariant_of-self c =
     let w = c.args.self.now.words in
-    fields (subst Two64 (sym c.copy.ensures) (open_fines w (two_of c.args.self.now) (closed_of w.state c.if-self-ge2.false) (min c.args.units w.count) (omega arith)))
+    let g = subst Two64 (sym c.copy.ensures) (open_fines w (two_of c.args.self.now) (closed_of w.state c.if-self-ge2.false) (min c.args.units w.count) (omega arith)) in
+    record { small = g.small; first = g.first; second = g.second; flag = g.state }
 
-pub invariant-of-self-2 : goal.invariant-of-self-2
-invariant-of-self-2 c =
+pub invariant_of-self-2 : goal.invariant_of-self-2
+invariant_of-self-2 c =
     let w = c.args.self.now.words in
     let z = closed_of w.state c.if-self-ge2.false in
-    fields (flag_fine c.copy.new.w (subst Two64 (sym c.copy.ensures) (open_fines w (two_of c.args.self.now) z (min c.args.units w.count) (omega arith))) (w.state + 2) (opening w.state z).2)
+    let g = flag_fine c.copy.new.w (subst Two64 (sym c.copy.ensures) (open_fines w (two_of c.args.self.now) z (min c.args.units w.count) (omega arith))) (w.state + 2) (opening w.state z).2 in
+    record { small = g.small; first = g.first; second = g.second; flag = g.state }
 
 pub returns-then-units-all : goal.returns-then-units-all
 returns-then-units-all c =

@@ -4,4 +4,4 @@ use Rattle.undo.specs.Fit.{log_of}
 use Rattle.undo.proofs.calls.UndoMemory.count.Goals as goal
 
 pub returns : goal.returns
-returns c = c.cell-count.ensures ∙ sym (kept_length _ (log_of c.args.self.now))
+returns c = c.cell_count.ensures ∙ sym (kept_length _ (log_of c.args.self.now))

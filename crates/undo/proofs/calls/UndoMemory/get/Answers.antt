@@ -11,5 +11,5 @@ returns-then-i-self c = ap (λ (f : Fault). Err f) c.new.ensures ∙ sym (get_no
 pub returns : goal.returns
 returns c =
     let w = c.args.self.now.words in
-    let f : SFits w32 c.read-cell.result = search rules in
-    ap (λ (y : ℤ). Ok y) (to_z-of_z w32 c.read-cell.result f ∙ c.read-cell.ensures) ∙ sym (get_is w (log_of c.args.self.now) c.args.i (omega arith))
+    let f : SFits w32 c.read_cell.result = search rules in
+    ap (λ (y : ℤ). Ok y) (to_z-of_z w32 c.read_cell.result f ∙ c.read_cell.ensures) ∙ sym (get_is w (log_of c.args.self.now) c.args.i (omega arith))

@@ -8,11 +8,11 @@ use Rattle.undo.proofs.calls.UndoMemory.kept.Goals as goal
 pub returns-then-i-self : goal.returns-then-i-self
 returns-then-i-self c = ap (λ (f : Fault). Err f) c.new.ensures ∙ sym (kept_not c.args.self.now.words (log_of c.args.self.now) c.args.i (omega arith))
 
-pub old-value-requires : goal.old-value-requires
-old-value-requires c = let l = log_of c.args.self.now in (omega (arith, l.small), state_most c.args.self.now.words l)
+pub old_value-requires : goal.old_value-requires
+old_value-requires c = let l = log_of c.args.self.now in (omega (arith, l.small), state_most c.args.self.now.words l)
 
 pub returns : goal.returns
 returns c =
     let w = c.args.self.now.words in
-    let f : SFits w32 c.old-value.result = search rules in
-    ap (λ (y : ℤ). Ok y) (to_z-of_z w32 c.old-value.result f ∙ c.old-value.ensures) ∙ sym (kept_is w (log_of c.args.self.now) c.args.i (omega arith))
+    let f : SFits w32 c.old_value.result = search rules in
+    ap (λ (y : ℤ). Ok y) (to_z-of_z w32 c.old_value.result f ∙ c.old_value.ensures) ∙ sym (kept_is w (log_of c.args.self.now) c.args.i (omega arith))
