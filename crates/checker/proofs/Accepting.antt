@@ -1,9 +1,9 @@
 -- From the laws of the walk to what `accept` answers. Assumes nothing.
-use Rattle.std.proofs.Common.{◌≡◌, ℕ, Bool, false, List, [], replicate, Ok, Err, Result, sym, ap, ◌∙◌, subst, inr, MatchResult}
+use Rattle.std.proofs.Common.{◌≡◌, ℕ, false, List, [], replicate, Ok, Err, Result, sym, ap, ◌∙◌, subst, inr, MatchResult}
 use Rattle.script.specs.declared.fault.Fault.{Fault}
 use Rattle.script.specs.declared.standing.Standing.TheVariants.{Clean}
 use Rattle.script.specs.Faults.{answer}
-use Rattle.script.specs.Syntax.{Code, Script, code}
+use Rattle.script.specs.Syntax.{Script, code}
 use Rattle.script.specs.Stand.{refused, least, fresh_in, all_refused, first_refused}
 use Rattle.script.proofs.Answers.{refused as refused_by}
 use Rattle.reader.specs.declared.drive.Script.{Script as Held}

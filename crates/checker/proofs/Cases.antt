@@ -1,6 +1,6 @@
 -- A script that keeps the limits, and whose use is refused in the second turn only. Assumes nothing.
 use Rattle.std.proofs.Common.{◌≡◌, ℕ, Some, refl, lit≤}
-use Rattle.script.specs.Syntax.{Leaf, Expr, alone, sum, no_term, term, no_factor, name, Block, done, assign, reading, loop, no_decl, var, fresh, Script}
+use Rattle.script.specs.Syntax.{Leaf, Expr, alone, sum, no_term, term, no_factor, name, done, assign, reading, loop, no_decl, var, fresh, Script}
 use Rattle.script.specs.Stand.{walks, first_refused}
 use Rattle.checker.proofs.Whole.{Small}
 

@@ -1,9 +1,9 @@
 -- Passes until no entry rises come to what the nested walks come to. Assumes nothing.
-use Rattle.std.proofs.Common.{◌≡◌, ℕ, zero, suc, ◌+◌, ◌*◌, ◌≤◌, Bool, true, not, [], ◌∷◌, ◌++◌, length, set, replicate, sym, refl, ap, ◌∙◌, subst, arith, length-set}
+use Rattle.std.proofs.Common.{◌≡◌, ℕ, zero, suc, ◌*◌, ◌≤◌, Bool, true, not, [], ◌∷◌, ◌++◌, length, set, replicate, sym, refl, ap, ◌∙◌, subst, arith, length-set}
 use Rattle.script.specs.declared.standing.Standing.{Standing}
 use Rattle.script.specs.declared.standing.Standing.TheVariants.{Clean, Now, Old}
 use Rattle.script.specs.Syntax.{reads, Code, nothing, put, read, fork, turns, region, uses}
-use Rattle.script.specs.Stand.{Table, both, of_expr, raised, aged, reading_at, assigned, climb, settle, walk, olds, uses_in}
+use Rattle.script.specs.Stand.{Table, both, of_expr, raised, aged, reading_at, assigned, settle, walk, olds, uses_in}
 use Rattle.checker.specs.Order.{rank, Le}
 use Rattle.checker.specs.Last.{refused_last}
 use Rattle.checker.proofs.Order.{le_refl, le_trans, both_left, both_right, le_set, length_both, length_raised, length_aged, length_climb, settled, settle_up}

@@ -1,5 +1,5 @@
 -- Passes over the rows of a script, until no entry rises, find the first refused use. Assumes nothing.
-use Rattle.std.proofs.Common.{◌≡◌, ℕ, suc, ◌+◌, ◌-◌, ◌<◌, ◌≤◌, min, Bool, true, false, not, ◌||◌, eqb, ltb, ◌⊎◌, List, [], ◌∷◌, length, get_or, set, replicate, Some, None, Option, sym, refl, ap, ◌∙◌, subst, ⊎_elim, arith, length-set}
+use Rattle.std.proofs.Common.{◌≡◌, ℕ, suc, ◌+◌, ◌-◌, ◌<◌, ◌≤◌, Bool, true, false, ◌||◌, eqb, ltb, List, [], ◌∷◌, length, get_or, set, replicate, Some, None, Option, sym, refl, ap, ◌∙◌, subst, ⊎_elim, arith, length-set}
 use lib.ListN.{length-replicate}
 use Rattle.std.proofs.lemmas.List.{get_or-set_same, get_or-set_other, get_or-replicate, get_or_past}
 use Rattle.std.proofs.lemmas.Bool.{true≢false, ltb-true, eq-eqb, ne_eqb, cases_eq, cases_lt}
@@ -8,7 +8,7 @@ use Rattle.script.specs.declared.row.Row.{Row}
 use Rattle.script.specs.declared.standing.Standing.TheVariants.{Clean}
 use Rattle.script.specs.Syntax.{Decls, no_decl, cell, minus_cell, var, fresh, Script, Code, nothing, put, read, fork, turns, region, uses, code}
 use Rattle.script.specs.Written.{row, text, text_decls, rows}
-use Rattle.script.specs.Stand.{Table, lesser, least, fresh_in, refused, first_refused}
+use Rattle.script.specs.Stand.{Table, lesser, least, fresh_in, first_refused}
 use Rattle.checker.specs.Limits.{shallow, numbered}
 use Rattle.checker.specs.Machine.{State, with_fresh, run, begun}
 use Rattle.checker.proofs.Order.{le_refl}

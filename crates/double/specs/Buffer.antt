@@ -1,5 +1,5 @@
 -- The words of a double buffer: what they mean, and which words each call writes.
-use Rattle.std.specs.Prelude.{◌≡◌, ℕ, zero, suc, ◌+◌, ◌-◌, ◌≤◌, Bool, true, false, cond, not, List, length, take, set, ℤ, pos, nat_le, nat_lt, slice_index_or, slice_set}
+use Rattle.std.specs.Prelude.{◌≡◌, ℕ, zero, suc, ◌+◌, ◌-◌, ◌≤◌, Bool, false, cond, not, List, length, take, ℤ, pos, nat_le, nat_lt, slice_index_or, slice_set}
 use Rattle.double.specs.declared.halves.Halves.{Halves}
 use Rattle.memory.specs.Meaning.{Meaning}
 use Rattle.memory.specs.Calls.{Call, Put, Open, Close, Mend}

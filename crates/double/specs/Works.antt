@@ -1,11 +1,11 @@
 -- The double buffer is within the rules.
-use Rattle.std.specs.Prelude.{◌≡◌, ℕ, zero, suc, ◌+◌, ◌-◌, ◌<◌, ◌≤◌, min, Bool, true, false, cond, not, leb, List, [], ◌∷◌, ◌++◌, length, get_or, take, replicate, ℤ, pos, Ok, Err, nat_le, nat_lt, slice_index_or, slice_set, refl}
+use Rattle.std.specs.Prelude.{◌≡◌, ℕ, zero, suc, ◌+◌, ◌-◌, ◌<◌, ◌≤◌, min, Bool, true, false, cond, not, leb, List, [], ◌∷◌, ◌++◌, length, get_or, take, ℤ, pos, Ok, Err, nat_le, nat_lt, slice_index_or, slice_set, refl}
 use Rattle.std.proofs.Common.{sym, ap, subst, ◌∙◌, arith, add-one, length-set, take-suc-set, length-take-le, get_or-take, take-suc}
 use Rattle.std.proofs.lemmas.List.{length-replicate}
-use Rattle.std.proofs.Math.Seq.{take-set-lt, take-length}
-use Rattle.double.specs.Buffer.{bit, side, up, half, with_half, live, meaning_of, Two64, Word, Half, Flag, write, open_word, many, word, double_plan, double_model}
+use Rattle.std.proofs.Math.Seq.{take-set-lt}
+use Rattle.double.specs.Buffer.{bit, side, up, half, with_half, live, meaning_of, Two64, Half, Flag, write, open_word, many, word, double_plan, double_model}
 use Rattle.double.specs.declared.halves.Halves.{Halves}
-use Rattle.memory.specs.Meaning.{Meaning, Sound, after_put, after_open, after_close, after_mend, closed_with}
+use Rattle.memory.specs.Meaning.{Meaning, Sound, after_open, after_mend, closed_with}
 use Rattle.memory.specs.Calls.{Call, Put, Open, Close, Mend, can, goal}
 use Rattle.memory.specs.Plan.{applied, spent, Good, Works}
 use Rattle.memory.specs.Model.{answer, after, cell_of}
@@ -13,7 +13,6 @@ use Rattle.memory.proofs.Filling.{filled_length, filled_front}
 use Rattle.memory.proofs.Plans.{meaning_eq, no_way, below, one_good, a_cell}
 use Rattle.script.specs.Faults.{fault}
 use Rattle.double.specs.Made.{first_halves}
-use Rattle.memory.specs.declared.Spent.{Spent}
 
 own : (w : Halves) (b : Bool) (c : List ℤ) → half (with_half w b c) b ≡ c
 own w true c = refl

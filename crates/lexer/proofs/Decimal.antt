@@ -1,7 +1,7 @@
 -- A number that stops growing at a limit has the value that a token keeps. Assumes nothing.
-use Rattle.std.proofs.Common.{◌≡◌, ℕ, ◌+◌, ◌-◌, ◌*◌, ◌<◌, ◌≤◌, min, List, [], ◌∷◌, length, get_or, drop, sym, refl, ap, ◌∙◌, arith}
+use Rattle.std.proofs.Common.{◌≡◌, ℕ, ◌+◌, ◌-◌, ◌*◌, ◌<◌, ◌≤◌, min, List, [], ◌∷◌, length, get_or, drop, sym, ◌∙◌, arith}
 use Rattle.std.proofs.lemmas.List.{at_drop_more, at_drop_all}
-use Rattle.script.specs.Tokens.{decimal, value_of}
+use Rattle.script.specs.Tokens.{decimal}
 
 grows : (n : ℕ) (ds : List ℕ) → n ≤ decimal n ds
 grows n [] = omega arith

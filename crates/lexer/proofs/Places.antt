@@ -1,13 +1,12 @@
 -- Where the tokens of a text lie. Assumes nothing.
-use Rattle.std.proofs.Common.{◌≡◌, ℕ, zero, suc, ◌+◌, ◌-◌, ◌<◌, ◌≤◌, Bool, true, false, cond, ◌&&◌, eqb, List, [], ◌∷◌, length, get_or, take, Some, None, Ok, Err, Option, Result, sym, refl, ap, ◌∙◌, subst, arith}
-use Rattle.std.specs.List.{prefix_len}
+use Rattle.std.proofs.Common.{◌≡◌, ℕ, zero, suc, ◌+◌, ◌-◌, ◌<◌, ◌≤◌, cond, ◌&&◌, eqb, List, [], ◌∷◌, length, get_or, Some, None, Ok, Err, Option, Result, refl, subst, arith}
 use Rattle.std.proofs.lemmas.List.Sums.{prefix_len-le-length}
 use Rattle.std.proofs.lemmas.Bool.{cond_both, and_parts, eqb-true}
 use Rattle.script.specs.declared.fault.Fault.{Fault}
 use Rattle.script.specs.declared.token.Sym.{Sym}
 use Rattle.script.specs.declared.token.Sym.TheVariants as sym
 use Rattle.script.specs.declared.token.Tok.{Tok}
-use Rattle.script.specs.Tokens.{blank, digit, letter, part, mark, mark_of, word, value_of, tok, token_of, after, begin, lex, tokens}
+use Rattle.script.specs.Tokens.{blank, digit, letter, part, mark, mark_of, tok, token_of, after, begin, lex, tokens}
 use Rattle.lexer.specs.Places.{Inside, Rising}
 
 -- the tokens lie one after the other between two places

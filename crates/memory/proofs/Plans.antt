@@ -1,12 +1,10 @@
 -- A memory that writes words one by one is within the rules, if each of its calls is good; and what the
 -- proofs of such memories share.
-use Rattle.std.proofs.Common.{◌≡◌, ℕ, zero, suc, ◌+◌, ◌<◌, ◌≤◌, min, Bool, true, false, cond, ltb, leb, List, length, get_or, ℤ, pos, Ok, Err, Result, sym, refl, ap, ◌∙◌, subst, arith}
-use Rattle.script.specs.declared.fault.Fault.{Fault}
+use Rattle.std.proofs.Common.{◌≡◌, ℕ, zero, suc, ◌<◌, ◌≤◌, min, Bool, true, false, cond, ltb, leb, List, length, get_or, ℤ, pos, Ok, Err, sym, refl, ap, ◌∙◌, arith}
 use Rattle.script.specs.Faults.{fault}
-use Rattle.memory.specs.declared.Spent.{Spent}
-use Rattle.memory.specs.Meaning.{Meaning, Sound}
-use Rattle.memory.specs.Calls.{Call, Mend, can, goal, Obeyed}
-use Rattle.memory.specs.Model.{Model, Lawful, Moved, cell_of}
+use Rattle.memory.specs.Meaning.{Meaning}
+use Rattle.memory.specs.Calls.{goal, Obeyed}
+use Rattle.memory.specs.Model.{Lawful, cell_of}
 use Rattle.memory.specs.Plan.{Plan, applied, spent, model_of, Good, Works}
 
 pub no_way : {P : Type 0} → true ≡ false → P

@@ -1,22 +1,22 @@
 -- From what each question answers to the first that says no. Assumes nothing.
-use Rattle.std.proofs.Common.{◌≡◌, ℕ, zero, suc, ◌+◌, ◌-◌, ◌<◌, ◌≤◌, min, Bool, true, false, cond, eqb, leb, ◌⊎◌, List, [], ◌∷◌, map, length, get_or, take, drop, Some, None, Ok, Err, Option, Result, sym, refl, ap, ◌∙◌, subst, inl, inr, ⊎_elim, arith, length-append, length-drop, MatchResult}
+use Rattle.std.proofs.Common.{◌≡◌, ℕ, zero, suc, ◌+◌, ◌-◌, ◌<◌, ◌≤◌, min, Bool, true, false, cond, eqb, leb, List, [], ◌∷◌, map, length, take, Some, None, Ok, Err, Option, Result, sym, refl, ap, ◌∙◌, subst, inl, inr, ⊎_elim, arith, length-append}
 use Rattle.std.proofs.lemmas.Bool.{cases_lt, leb-true}
 use Rattle.script.specs.declared.fault.Fault.{Fault}
 use Rattle.script.specs.declared.row.Row.{Row}
 use Rattle.script.specs.declared.token.Tok.{Tok}
 use Rattle.script.specs.Faults.{fault, answer, unless, then}
 use Rattle.script.specs.Tokens.{blank, token_of, after, begin, lex, tokens}
-use Rattle.script.specs.Sizes.{past_bytes, first_where, too_long, first_place, past_tokens, scanned}
+use Rattle.script.specs.Sizes.{past_bytes, first_where, too_long, past_tokens, scanned}
 use Rattle.script.specs.Nesting.{nesting}
 use Rattle.script.specs.Syntax.{Script}
-use Rattle.script.specs.Written.{token, rows, Writes, Breaks}
+use Rattle.script.specs.Written.{token, rows, Breaks}
 use Rattle.script.specs.Decode.{decode}
 use Rattle.std.proofs.lemmas.List.{take_all, length-map}
 use Rattle.script.specs.Roles.{declares_cell, those, first_row}
 use Rattle.script.specs.Names.{names, crowded, twice, undeclared, into_cell, out_of_range, no_row}
 use Rattle.reader.proofs.Declared.{few_names, few_cells, few_locals, cells_rows, locals_rows}
 use Rattle.script.specs.Questions.{Question, bytes_few, bytes_known, tokens_short, tokens_few, nested_within, written, names_few, names_once, names_declared, readings_local, numbers_in_range, bounded, number_of, Reads, No, Passes, FirstNo, OneSyntax}
-use Rattle.script.proofs.Answers.{refused, taken, by_answer, few_tokens}
+use Rattle.script.proofs.Answers.{refused, taken, few_tokens}
 use Rattle.parser.specs.Reading.{Parses, Unparsed}
 use Rattle.parser.proofs.Reading.{one_script}
 use Rattle.parser.proofs.Decoded.{decoded}

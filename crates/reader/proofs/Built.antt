@@ -1,8 +1,6 @@
 -- The rows with their names numbered are a read script. Assumes nothing.
-use Rattle.std.proofs.Common.{◌≡◌, ℕ, ◌+◌, ◌<◌, ◌≤◌, Bool, true, false, cond, ◌||◌, List, [], ◌∷◌, map, length, take, is_some, Some, None, Ok, Option, sym, refl, ap, ◌∙◌, subst, arith}
+use Rattle.std.proofs.Common.{◌≡◌, ℕ, ◌<◌, Bool, true, false, cond, ◌||◌, List, [], ◌∷◌, map, is_some, Some, None, Ok, Option, sym, refl, ap, ◌∙◌, subst, arith}
 use Rattle.script.specs.declared.row.Row.{Row}
-use Rattle.script.specs.declared.row.Role.{Role}
-use Rattle.script.specs.declared.token.Sym.{Sym}
 use Rattle.script.specs.Nesting.{open_after, or_stop, nesting_from, nesting}
 use Rattle.script.specs.Syntax.{Script}
 use Rattle.script.specs.Written.{sym_of, token, rows}
@@ -10,7 +8,7 @@ use Rattle.script.specs.Decode.{decode}
 use Rattle.script.specs.Roles.{declares, mentions}
 use Rattle.script.specs.Names.{names, numbered, number_all, all_numbered, all_repeat}
 use Rattle.script.specs.Numbers.{all_fit}
-use Rattle.script.specs.Questions.{Question, number_of, bytes_few, bytes_known, tokens_short, tokens_few, nested_within, written, names_few, names_once, names_declared, readings_local, numbers_in_range, bounded, No, Passes}
+use Rattle.script.specs.Questions.{Question, number_of, bytes_few, bytes_known, tokens_short, tokens_few, nested_within, written, names_few, names_once, names_declared, readings_local, numbers_in_range, bounded}
 use Rattle.parser.proofs.Decoded.{decoded}
 use Rattle.parser.proofs.Reading.{whole}
 use Rattle.script.specs.Steps.{cells, locals, steps_of, readings_of}

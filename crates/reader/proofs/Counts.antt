@@ -1,15 +1,15 @@
 -- The walk of the rows counts the steps and readings of the script. Assumes nothing.
-use Rattle.std.proofs.Common.{◌≡◌, ℕ, zero, suc, ◌+◌, ◌*◌, ◌<◌, ◌≤◌, min, max, Bool, true, false, cond, ltb, List, [], ◌∷◌, length, sym, refl, ap, ◌∙◌, ⊎_elim, suc-mul, zero-mul, arith}
+use Rattle.std.proofs.Common.{◌≡◌, ℕ, zero, suc, ◌+◌, ◌*◌, ◌<◌, ◌≤◌, min, max, cond, List, [], ◌∷◌, length, refl, ap, ◌∙◌, ⊎_elim, suc-mul, zero-mul, arith}
 use Rattle.std.proofs.lemmas.Bool.{cases_lt, lt-ltb}
 use Rattle.script.specs.declared.row.Row.{Row}
 use Rattle.script.specs.declared.row.Role.TheVariants as role
-use Rattle.script.specs.Syntax.{Leaf, Expr, alone, less, same, Sum, sum, Terms, no_term, plus, minus, Term, term, Factors, no_factor, times, over, Factor, number, negative, name, paren, Names, no_name, comma, Block, done, assign, reading, when, either, loop, atomic, together, Decls, no_decl, cell, minus_cell, var, fresh, Script, code}
+use Rattle.script.specs.Syntax.{Expr, alone, less, same, Sum, sum, Terms, no_term, plus, minus, Term, term, Factors, no_factor, times, over, Factor, number, negative, name, paren, Names, no_name, comma, Block, done, assign, reading, when, either, loop, atomic, together, Decls, no_decl, cell, minus_cell, var, fresh, Script, code}
 use Rattle.script.specs.Steps.{steps, readings, steps_of, readings_of}
 use Rattle.script.specs.Written.{row, text_expr, text_sum, text_terms, text_term, text_factors, text_factor, text_names, text, text_decls, rows}
 use Rattle.reader.specs.declared.count.Total.{Total}
 use Rattle.reader.specs.declared.count.Outer.{Outer}
 use Rattle.reader.specs.declared.count.Outer.TheVariants.{Repeat, First, Second}
-use Rattle.reader.specs.Count.{cap_steps, cap_readings, total, none, add, multiply, larger, Acc, acc, more, enter, ended, leave, flip, flipped, does, count}
+use Rattle.reader.specs.Count.{cap_steps, cap_readings, total, none, add, multiply, larger, Acc, acc, more, enter, count}
 use Rattle.reader.proofs.Caps.{cap_product}
 use Rattle.reader.proofs.Nests.{depth}
 

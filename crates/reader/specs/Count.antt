@@ -1,5 +1,5 @@
 -- Counting steps and readings by one walk of the rows, with a stack of what is counted outside the block. Assumes nothing.
-use Rattle.std.specs.Prelude.{ℕ, zero, suc, ◌+◌, ◌*◌, min, max, Bool, cond, ◌||◌, List, [], ◌∷◌, length, nat_lt, slice_index_or}
+use Rattle.std.specs.Prelude.{ℕ, zero, suc, ◌+◌, ◌*◌, min, max, cond, ◌||◌, List, [], ◌∷◌, length, nat_lt, slice_index_or}
 use Rattle.script.specs.declared.row.Role.{Role}
 use Rattle.script.specs.declared.row.Role.TheVariants as role
 use Rattle.script.specs.declared.row.Row.{Row}

@@ -1,7 +1,7 @@
 -- What a script holds that was read from a text. Assumes nothing.
-use Rattle.std.specs.Prelude.{◌≡◌, ℕ, List, [], take}
+use Rattle.std.specs.Prelude.{◌≡◌, ℕ, List, take}
 use Rattle.script.specs.declared.row.Row.{Row}
-use Rattle.script.specs.Syntax.{Script, Leaf, done, no_decl}
+use Rattle.script.specs.Syntax.{Script, done, no_decl}
 use Rattle.script.specs.Written.{rows}
 use Rattle.script.specs.Decode.{decode}
 use Rattle.script.specs.Names.{number_all}

@@ -1,7 +1,6 @@
 -- Lines of a text: each ends with a line feed, the last with the text. Assumes nothing.
-use Rattle.std.specs.Prelude.{ℕ, ◌+◌, ◌-◌, Bool, cond, not, List, [], ◌∷◌, take, drop, ◌==◌}
+use Rattle.std.specs.Prelude.{ℕ, ◌+◌, Bool, cond, not, List, [], ◌∷◌, take, drop, ◌==◌}
 use Rattle.std.specs.List.{prefix_len}
-use Rattle.report.specs.declared.spot.Spot.{Spot}
 
 -- how many line feeds there are, after so many
 abbrev pub breaks : ℕ → List ℕ → ℕ

@@ -1,5 +1,5 @@
 -- How bytes are shown to a person, and the blanks above which a caret stands. Assumes nothing.
-use Rattle.std.specs.Prelude.{ℕ, Bool, cond, ◌&&◌, ◌||◌, ◌==◌, nat_le}
+use Rattle.std.specs.Prelude.{ℕ, cond, ◌&&◌, ◌||◌, ◌==◌, nat_le}
 use Rattle.report.specs.declared.excerpt.How.{How}
 use Rattle.report.specs.declared.excerpt.How.TheVariants.{Shown, Blank}
 

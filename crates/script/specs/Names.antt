@@ -4,7 +4,7 @@ use Rattle.std.specs.Str.{bytes_eq}
 use Rattle.script.specs.declared.row.Role.TheVariants as role
 use Rattle.script.specs.declared.row.Row.{Row}
 use Rattle.script.specs.Tokens.{spelled}
-use Rattle.script.specs.Roles.{is, declares_cell, declares_local, declares, mentions, those, first_row}
+use Rattle.script.specs.Roles.{is, declares_cell, declares_local, declares, mentions, those}
 
 -- two names are the same where their bytes are
 abbrev pub same_name : List ℕ → Row → Row → Bool

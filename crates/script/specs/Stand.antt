@@ -1,8 +1,5 @@
 -- The standing of names, and the uses that are refused. Assumes nothing.
-use Rattle.std.specs.Prelude.{ℕ, zero, suc, ◌*◌, min, Bool, true, false, cond, not, ◌&&◌, ◌||◌, List, [], ◌∷◌, ◌++◌, map, length, replicate, Some, None, Option, ◌==◌, slice_index_or, slice_set}
-use Rattle.script.specs.declared.row.Role.{Role}
-use Rattle.script.specs.declared.row.Role.TheVariants as role
-use Rattle.script.specs.declared.row.Row.{Row}
+use Rattle.std.specs.Prelude.{ℕ, zero, suc, ◌*◌, min, Bool, true, false, cond, not, ◌||◌, List, [], ◌∷◌, ◌++◌, map, length, replicate, Some, None, Option, ◌==◌, slice_index_or, slice_set}
 use Rattle.script.specs.declared.standing.Standing.{Standing}
 use Rattle.script.specs.declared.standing.Standing.TheVariants.{Clean, Now, Old}
 use Rattle.script.specs.Syntax.{Leaf, Expr, reads, Code, nothing, put, read, fork, turns, region, uses, Decls, no_decl, cell, minus_cell, var, fresh, Script, code}

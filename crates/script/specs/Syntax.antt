@@ -1,5 +1,5 @@
 -- The syntax of scripts: what stands between the grammar and everything that is said of a script. Assumes nothing.
-use Rattle.std.specs.Prelude.{ℕ, List, [], ◌∷◌, ◌++◌}
+use Rattle.std.specs.Prelude.{ℕ, List, [], ◌∷◌}
 
 -- a token but for what it is: its first byte, its length, and its value
 pub record Leaf : Type 0 where

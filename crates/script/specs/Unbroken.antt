@@ -1,7 +1,7 @@
 -- The unbroken run: a script that no power failure stops. It is fed its first cells and a list of channels with values, and takes
 -- main's steps once, in order. Assumes nothing.
 use Rattle.std.specs.Prelude.{ℕ, zero, suc, ◌-◌, Bool, true, false, cond, List, [], ◌∷◌, replicate, ℤ, pos, negsuc, Some, None, Option, ◌==◌, nat_lt, slice_index_or, slice_set}
-use Rattle.script.specs.Syntax.{Expr, Code, nothing, put, read, fork, turns, region, uses, Script, code}
+use Rattle.script.specs.Syntax.{Code, nothing, put, read, fork, turns, region, uses, Script, code}
 use Rattle.script.specs.Steps.{cells}
 use Rattle.script.specs.Values.{value}
 

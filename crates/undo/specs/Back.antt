@@ -1,10 +1,10 @@
 -- Writing old values back.
-use Rattle.std.specs.Prelude.{◌≡◌, ℕ, zero, suc, ◌+◌, ◌-◌, ◌<◌, ◌≤◌, Bool, true, false, cond, ◌≢◌, List, [], ◌∷◌, ◌++◌, length, get_or, take, set, ℤ, pos, ◌==◌, nat_lt, slice_index, slice_index_or, slice_set, refl}
+use Rattle.std.specs.Prelude.{◌≡◌, ℕ, zero, suc, ◌-◌, ◌<◌, ◌≤◌, Bool, true, false, cond, ◌≢◌, List, [], ◌∷◌, length, get_or, take, set, ℤ, pos, ◌==◌, nat_lt, slice_index, slice_index_or, slice_set, refl}
 use Rattle.std.proofs.Common.{sym, ap, subst, ◌∙◌, arith, length-set, get_or-set_same, get_or-set_other, set-set}
 use Rattle.std.proofs.lemmas.List.{set-get_or}
 use Rattle.undo.specs.Log.{undone, among, marked, meaning_of, pairs}
 use Rattle.undo.specs.declared.words.Words.{Words}
-use Rattle.memory.specs.Meaning.{Meaning, Sound}
+use Rattle.memory.specs.Meaning.{Sound}
 use Rattle.memory.proofs.Plans.{no_way}
 
 set_swap : (l : List ℤ) (i j : ℕ) (a b : ℤ) → (i ≢ j) → slice_set (slice_set l i a) j b ≡ slice_set (slice_set l j b) i a

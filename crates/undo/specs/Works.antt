@@ -1,15 +1,14 @@
 -- The undo log is within the rules.
-use Rattle.std.specs.Prelude.{◌≡◌, ℕ, zero, suc, ◌+◌, ◌-◌, ◌<◌, ◌≤◌, min, Bool, true, false, cond, not, ◌&&◌, ltb, List, [], ◌∷◌, length, get_or, take, set, replicate, ℤ, pos, Ok, Err, ◌==◌, ◌≢◌, nat_lt, slice_index, slice_index_or, slice_set, refl}
+use Rattle.std.specs.Prelude.{◌≡◌, ℕ, zero, suc, ◌+◌, ◌-◌, ◌<◌, ◌≤◌, min, Bool, true, false, cond, not, ◌&&◌, ltb, List, length, get_or, take, set, replicate, ℤ, pos, Ok, Err, ◌==◌, ◌≢◌, nat_lt, slice_index, slice_index_or, slice_set, refl}
 use Rattle.std.proofs.Common.{sym, ap, subst, ◌∙◌, arith, length-set, get_or-set_same, get_or-set_other, get_or-take, length-take-le, add-one}
 use Rattle.std.proofs.lemmas.List.{length-replicate, set-get_or}
 use Rattle.std.proofs.Math.Seq.{take-set-lt}
-use Rattle.undo.specs.Log.{undone, among, marked, meaning_of, pairs, Log64, Word, Cell, Number, Old, Flag, write, fresh, first_word, mend_word, many, word, undo_plan, undo_model}
+use Rattle.undo.specs.Log.{undone, among, marked, meaning_of, pairs, Log64, Cell, Flag, write, fresh, first_word, mend_word, many, word, undo_plan, undo_model}
 use Rattle.undo.specs.Made.{first_words}
 use Rattle.undo.specs.declared.words.Words.{Words}
-use Rattle.memory.specs.Meaning.{Meaning, Sound, after_put, after_mend, closed_with}
+use Rattle.memory.specs.Meaning.{Meaning, after_put, after_mend, closed_with}
 use Rattle.memory.specs.Calls.{Call, Put, Open, Close, Mend, can, goal}
 use Rattle.memory.specs.Plan.{applied, spent, Good, Works}
-use Rattle.memory.specs.declared.Spent.{Spent}
 use Rattle.memory.specs.Model.{answer, after, cell_of}
 use Rattle.memory.proofs.Filling.{filled_length, filled_front}
 use Rattle.memory.proofs.Plans.{meaning_eq, no_way, below, one_good, a_cell, no_cell}

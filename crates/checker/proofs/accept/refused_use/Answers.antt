@@ -1,4 +1,4 @@
-use Rattle.std.proofs.Common.{◌≡◌, length, take, sym, ap, ◌∙◌, arith, length-take}
+use Rattle.std.proofs.Common.{length, take, ap, ◌∙◌, arith, length-take}
 use Rattle.reader.specs.Holding.{syntax}
 use Rattle.checker.specs.Limits.{shallow, numbered}
 use Rattle.checker.proofs.Within.{within_16, none_nested, within_128}

@@ -1,4 +1,4 @@
-use Rattle.std.proofs.Common.{◌≡◌, ◌+◌, ◌-◌, ◌≤◌, length, sym, ◌∙◌, arith}
+use Rattle.std.proofs.Common.{◌-◌, sym, ◌∙◌, arith}
 use Rattle.lexer.proofs.Begun.{number_at, word_at, mark_at}
 use Rattle.lexer.proofs.Steps.{cut_length}
 use Rattle.lexer.proofs.scan.token_at.Goals as goal

@@ -1,4 +1,4 @@
-use Rattle.std.proofs.Common.{◌≡◌, ◌+◌, [], ◌∷◌, Err, sym, ap, ◌∙◌, arith}
+use Rattle.std.proofs.Common.{◌+◌, [], ◌∷◌, Err, sym, ap, ◌∙◌, arith}
 use Rattle.script.specs.Tokens.{after}
 use Rattle.lexer.specs.Plain.{plain, rest}
 use Rattle.lexer.proofs.Begun.{plain_len}

@@ -1,4 +1,4 @@
-use Rattle.std.proofs.Common.{◌≡◌, List, get_or, set, ℤ, pos, Ok, sym, ap, ◌∙◌, arith, w32, SFits, to_z, of_z, rules}
+use Rattle.std.proofs.Common.{List, get_or, set, ℤ, pos, Ok, sym, ap, ◌∙◌, arith, w32, SFits, to_z, of_z, rules}
 use Rattle.std.proofs.lemmas.Int.{to_z-of_z}
 use Rattle.memory.proofs.Filling.{fill_more, fill_end, taken_whole}
 use Rattle.memory.specs.Cells.{filled}

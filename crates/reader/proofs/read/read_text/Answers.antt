@@ -1,4 +1,4 @@
-use Rattle.std.proofs.Common.{◌≡◌, length, take, Ok, sym, ◌∙◌, subst}
+use Rattle.std.proofs.Common.{length, take, sym, subst}
 use Rattle.std.proofs.lemmas.Result.{err_from_is_err_and}
 use Rattle.parser.specs.Reading.{Parses, Unparsed}
 use Rattle.reader.specs.Stages.{Parsed}

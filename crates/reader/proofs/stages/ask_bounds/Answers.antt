@@ -1,4 +1,4 @@
-use Rattle.std.proofs.Common.{◌≡◌, ⊎_elim}
+use Rattle.std.proofs.Common.{⊎_elim}
 use Rattle.reader.proofs.Asked.{too_many_steps, too_many_readings, both_within}
 use Rattle.reader.proofs.stages.ask_bounds.Goals as goal
 

@@ -1,6 +1,5 @@
-use Rattle.std.proofs.Common.{◌≡◌, List, take, Ok, Err, sym, refl, ap, ◌∙◌, arith}
+use Rattle.std.proofs.Common.{ap, ◌∙◌}
 use Rattle.std.proofs.lemmas.Result.{err_from_is_err_and}
-use Rattle.script.specs.declared.row.Row.{Row}
 use Rattle.script.specs.Faults.{answer}
 use Rattle.script.specs.Roles.{first_row}
 use Rattle.script.specs.Names.{undeclared, into_cell, out_of_range, no_row}

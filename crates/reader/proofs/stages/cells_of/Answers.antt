@@ -1,4 +1,4 @@
-use Rattle.std.proofs.Common.{◌≡◌, [], ◌++◌, take, sym, ap, ◌∙◌}
+use Rattle.std.proofs.Common.{◌++◌, take, ap, ◌∙◌}
 use Rattle.script.specs.Roles.{declares_cell, those}
 use Rattle.reader.proofs.stages.cells_of.Goals as goal
 

@@ -1,4 +1,4 @@
-use Rattle.std.proofs.Common.{◌≡◌, [], ◌++◌, take, sym, ap, ◌∙◌}
+use Rattle.std.proofs.Common.{◌++◌, take, ap, ◌∙◌}
 use Rattle.script.specs.Roles.{declares_cell, declares_local, those}
 use Rattle.reader.proofs.Listing.{take_take_append}
 use Rattle.reader.proofs.stages.names_of.Goals as goal

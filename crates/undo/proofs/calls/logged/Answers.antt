@@ -1,4 +1,4 @@
-use Rattle.std.proofs.Common.{◌≡◌, ℕ, Bool, true, false, cond, eqb, get_or, sym, refl, ap, ◌∙◌, add-one}
+use Rattle.std.proofs.Common.{ℕ, Bool, true, cond, get_or, sym, ap, ◌∙◌, add-one}
 use Rattle.undo.specs.Log.{among}
 use Rattle.undo.specs.Works.{eq_true, eq_false}
 use Rattle.undo.proofs.calls.logged.Goals as goal

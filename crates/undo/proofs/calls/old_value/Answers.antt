@@ -1,4 +1,4 @@
-use Rattle.std.proofs.Common.{◌≡◌, ℕ, get_or, pos, sym, refl, ap, ◌∙◌, add-one, arith, w32, SFits, rules}
+use Rattle.std.proofs.Common.{ℕ, get_or, pos, sym, ap, ◌∙◌, add-one, w32, SFits, rules}
 use Rattle.std.proofs.lemmas.Int.{to_z-of_z}
 use Rattle.undo.specs.Log.{undone}
 use Rattle.undo.specs.Works.{kept_pair, kept_past}

@@ -1,4 +1,4 @@
-use Rattle.std.proofs.Common.{◌≡◌, Bool, get_or, ℤ, pos, Ok, sym, ap, ◌∙◌, arith, w32, SFits, rules}
+use Rattle.std.proofs.Common.{Bool, get_or, ℤ, pos, Ok, sym, ap, ◌∙◌, arith, w32, SFits, rules}
 use Rattle.std.proofs.lemmas.Int.{to_z-of_z}
 use Rattle.double.specs.Buffer.{half}
 use Rattle.double.specs.Works.{get_is}

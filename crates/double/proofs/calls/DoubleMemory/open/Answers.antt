@@ -1,4 +1,4 @@
-use Rattle.std.proofs.Common.{◌≡◌, ℕ, ◌+◌, min, true, false, Ok, sym, ap, ◌∙◌, subst, arith}
+use Rattle.std.proofs.Common.{ℕ, ◌+◌, min, Ok, sym, ap, ◌∙◌, subst, arith}
 use Rattle.memory.specs.declared.Spent.{Spent}
 use Rattle.memory.specs.Plan.{applied}
 use Rattle.double.specs.declared.halves.Halves.{Halves}

@@ -1,4 +1,4 @@
-use Rattle.std.proofs.Common.{◌≡◌, take, Ok, Err, arith}
+use Rattle.std.proofs.Common.{◌≡◌, take, Ok, Err}
 use Rattle.std.proofs.lemmas.Result.{err_from_is_err_and}
 use Rattle.script.specs.Faults.{answer}
 use Rattle.script.specs.Sizes.{first_where, too_long, past_tokens}

@@ -1,4 +1,4 @@
-use Rattle.std.proofs.Common.{◌+◌, [], length, take, Err, sym, refl, ap, ◌∙◌, subst, arith}
+use Rattle.std.proofs.Common.{◌+◌, length, take, Err, sym, ap, ◌∙◌, subst, arith}
 use Rattle.script.specs.Names.{twice}
 use Rattle.reader.specs.declared.names.table.Names.{Names}
 use Rattle.reader.proofs.Loops.{Once, twice_here, once_past, once_more, once_all}

@@ -1,4 +1,4 @@
-use Rattle.std.proofs.Common.{◌≡◌, ℕ, ◌<◌, ◌≤◌, min, sym, refl, ap, ◌∙◌, subst, arith, rules}
+use Rattle.std.proofs.Common.{min, sym, refl, ap, ◌∙◌, subst, arith}
 use Rattle.undo.specs.Log.{Log64, pairs, write, Flag}
 use Rattle.undo.specs.declared.words.Words.{Words}
 use Rattle.undo.specs.Works.{mend_fines, mend_last, shut_log, state_most, positive}

@@ -1,4 +1,4 @@
-use Rattle.std.proofs.Common.{◌≡◌, ℕ, min, true, false, ℤ, Ok, sym, refl, ap, ◌∙◌, subst, arith, w32, SFits, to_z, of_z, rules}
+use Rattle.std.proofs.Common.{min, true, false, ℤ, Ok, sym, ap, ◌∙◌, subst, arith, w32, rules}
 use Rattle.std.proofs.lemmas.Int.{to_z-of_z}
 use Rattle.memory.specs.declared.Spent.{Spent}
 use Rattle.memory.specs.Plan.{applied}

@@ -1,5 +1,4 @@
-use Rattle.std.proofs.Common.{◌≡◌, ◌+◌, take, sym, refl, ap, ◌∙◌, subst, arith, length-take}
-use Rattle.script.specs.declared.row.Row.{Row}
+use Rattle.std.proofs.Common.{◌+◌, take, sym, refl, subst, arith, length-take}
 use Rattle.reader.specs.declared.names.table.Names.{Names}
 use Rattle.reader.specs.Wanted.{wanted}
 use Rattle.reader.proofs.Listing.{Added, added_past, added_one, added_all}

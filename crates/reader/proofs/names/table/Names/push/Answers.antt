@@ -1,4 +1,3 @@
-use Rattle.std.proofs.Common.{arith}
 use Rattle.reader.proofs.Listing.{pushed, pushed_past}
 use Rattle.reader.proofs.names.table.Names.push.Goals as goal
 
