@@ -2,7 +2,6 @@
 ghost use Rattle.std.specs.Prelude.{◌≡◌, ◌≤◌, length, take, pos, ◌+ℤ◌, ◌*ℤ◌};
 ghost use Rattle.host.specs.Drifts.{cut_off, drift, drift_table};
 ghost use Rattle.host.specs.Readings.{seen_by};
-ghost use Rattle.std.proofs.Common.{rules, arith};
 
 use crate::Host;
 use crate::table::Rate;
@@ -73,9 +72,9 @@ impl Host for Drift {
 
     ghost many = { λ d. d.len };
 
-    ghost some = { first_of (Prim.search rules, Prim.grind (arith, Self.row.coded.inj)) };
+    ghost some = { λ d. d.some };
 
-    ghost few = { first_of (Prim.search rules, Prim.grind (arith, Self.row.coded.inj)) };
+    ghost few = { λ d. d.few };
 
     fn channels(&self) -> u8 {
         self.len

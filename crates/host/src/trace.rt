@@ -3,7 +3,7 @@ ghost use Rattle.std.specs.Prelude.{◌≡◌, ◌≤◌, length, take};
 ghost use Rattle.host.specs.Order.{InOrder, AllLater};
 ghost use Rattle.host.specs.Readings.{seen_by};
 ghost use Rattle.host.specs.Traces.{outside, first_outside, first_fall, before_first, trace, trace_table};
-ghost use Rattle.std.proofs.Common.{rules, arith};
+ghost use Rattle.std.proofs.Common.{leb-true, refl};
 
 use crate::Host;
 use crate::table::Sample;
@@ -134,9 +134,9 @@ impl Host for Trace {
 
     ghost many = { λ t. 16 };
 
-    ghost some = { first_of (Prim.search rules, Prim.grind (arith, Self.row.coded.inj)) };
+    ghost some = { λ t. leb-true 1 16 refl };
 
-    ghost few = { first_of (Prim.search rules, Prim.grind (arith, Self.row.coded.inj)) };
+    ghost few = { λ t. leb-true 16 16 refl };
 
     fn channels(&self) -> u8 {
         16

@@ -176,8 +176,13 @@ mod tests {
         let rows = [at(3, 2, 8); 1025];
         given(&rt, traced(&rows[0..1024], 2, 3), 8)?;
         given(&rt, traced(&rows[0..1024], 3, 3), 0)?;
-        given(&rt, traced(&rows[0..1024], 2, 2), 0)?;
-        refused(&rt, traced(&rows, 2, 3), 31, 1024)?;
+        refused(&rt, traced(&rows, 2, 3), 31, 1024)
+    }
+
+    // A full table before its only tick, and a table with too many rows of which each is wrong.
+    #[test]
+    fn trace_full_and_past_full(rt: HostRuntime) -> Result<(), Fail> {
+        given(&rt, traced(&[at(3, 2, 8); 1024], 2, 2), 0)?;
         refused(&rt, traced(&[at(9, 99, 0); 1025], 2, 3), 31, 1024)
     }
 
@@ -210,14 +215,19 @@ mod tests {
         let rows = [at(5, 0, 1), at(4, 0, 1), at(4, 16, 1)];
         refused(&rt, traced(&rows, 0, 0), 32, 2)?;
         refused(&rt, traced(&rows[0..2], 0, 0), 33, 1)?;
+        refused(&rt, traced(&[at(2000000001, 0, 1)], 0, 0), 32, 0)?;
+        given(&rt, traced(&[at(2000000000, 15, 1)], 15, 2000000000), 1)
+    }
+
+    // The first tick below that of the row before it is the last row's.
+    #[test]
+    fn trace_falls_late(rt: HostRuntime) -> Result<(), Fail> {
         refused(
             &rt,
             traced(&[at(5, 0, 1), at(5, 1, 1), at(6, 0, 1), at(5, 0, 1)], 0, 0),
             33,
             3,
-        )?;
-        refused(&rt, traced(&[at(2000000001, 0, 1)], 0, 0), 32, 0)?;
-        given(&rt, traced(&[at(2000000000, 15, 1)], 15, 2000000000), 1)
+        )
     }
 
     #[test]
