@@ -20,10 +20,6 @@ pub trait Host {
 
     ghost many: { Self → ℕ };
 
-    ghost some: { (h : Self) → 1 ≤ many h };
-
-    ghost few: { (h : Self) → many h ≤ 16 };
-
     // How many channels there are.
     fn channels(&self) -> u8
         ensures { result ≡ many self.now };
@@ -31,4 +27,8 @@ pub trait Host {
     // The value of a channel, from 0, at a tick.
     fn reading(&self, channel: u8, tick: u32) -> Result<i32, Fault>
         ensures { result ≡ read (value self.now) (many self.now) channel tick };
+
+    ghost some: { (h : Self) → 1 ≤ many h };
+
+    ghost few: { (h : Self) → many h ≤ 16 };
 }

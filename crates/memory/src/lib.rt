@@ -47,10 +47,6 @@ pub trait Memory {
 
     ghost state: { Self → model.State };
 
-    ghost lawful: { Lawful model };
-
-    ghost stands: { (m : Self) → model.fine (state m) };
-
     // How many cells there are.
     fn count(&self) -> u32
         ensures { result ≡ length (model.means (state self.now)).kept };
@@ -85,4 +81,8 @@ pub trait Memory {
     fn mend(&mut self, units: u32) -> Spent
         ensures said { result ≡ (model.act (state self.old) Mend units).answer }
         ensures left { state self.new ≡ (model.act (state self.old) Mend units).after };
+
+    ghost lawful: { Lawful model };
+
+    ghost stands: { (m : Self) → model.fine (state m) };
 }
