@@ -1,9 +1,8 @@
 -- One more row of a walk. Assumes nothing.
-use Rattle.std.proofs.Common.{◌≡◌, ℕ, ◌+◌, ◌<◌, ◌≤◌, List, [], ◌∷◌, length, get_or, drop, ℤ, sym, refl, ap, ◌∙◌}
+use Rattle.std.proofs.Common.{◌≡◌, ℕ, ◌+◌, ◌<◌, ◌≤◌, List, length, get_or, drop, ℤ, sym, ap, ◌∙◌}
 use Rattle.std.proofs.lemmas.List.{at_drop_more, at_drop_all}
 use Rattle.script.specs.declared.row.Row.{Row}
-use Rattle.evaluate.specs.declared.level.Level.{Level}
-use Rattle.evaluate.specs.Walk.{At, on, does, operand, walk, worth, finish}
+use Rattle.evaluate.specs.Walk.{At, does, operand, walk, worth, finish}
 
 module _ (v : ℕ → ℤ) (rs : List Row) (i : ℕ) where
   -- the walk from the row i on, which is the row itself, and then the walk from the next

@@ -1,13 +1,13 @@
 -- The walk over the rows of an expression gives its value. Assumes nothing.
-use Rattle.std.proofs.Common.{◌≡◌, ℕ, suc, ◌<◌, ◌≤◌, Bool, true, false, cond, ◌&&◌, ltb, List, [], ◌∷◌, length, ℤ, pos, ◌+ℤ◌, ◌-ℤ◌, ◌*ℤ◌, sym, refl, ap, ◌∙◌, arith, ltb-true}
+use Rattle.std.proofs.Common.{◌≡◌, ℕ, suc, ◌<◌, ◌≤◌, true, cond, ltb, List, [], ◌∷◌, length, ℤ, pos, ◌*ℤ◌, refl, ap, ◌∙◌, arith, ltb-true}
 use Rattle.std.proofs.lemmas.Bool.{lt-ltb}
 use Rattle.script.specs.declared.row.Role.TheVariants as role
 use Rattle.script.specs.declared.row.Row.{Row}
-use Rattle.script.specs.Syntax.{Leaf, Expr, alone, less, same, Sum, sum, Terms, no_term, plus, minus, Term, term, Factors, no_factor, times, over, Factor, number, negative, name, paren}
+use Rattle.script.specs.Syntax.{Expr, alone, less, same, Sum, sum, Terms, no_term, plus, minus, Term, term, Factors, no_factor, times, over, Factor, number, negative, name, paren}
 use Rattle.script.specs.Written.{row, text_expr, text_sum, text_terms, text_term, text_factors, text_factor}
-use Rattle.script.specs.Values.{wrapped, quotient, truth, equal, value, value_sum, more_terms, value_term, more_factors, value_factor}
+use Rattle.script.specs.Values.{wrapped, quotient, value, value_sum, more_terms, value_term, more_factors, value_factor}
 use Rattle.checker.specs.Limits.{shallow}
-use Rattle.checker.proofs.Exprs.{and_true, shallow_rows, shallow_sum, shallow_terms, shallow_term, shallow_factors, shallow_factor}
+use Rattle.checker.proofs.Exprs.{and_true, shallow_sum, shallow_term, shallow_factor}
 use Rattle.evaluate.specs.declared.level.Side.{Side}
 use Rattle.evaluate.specs.declared.level.Side.TheVariants as side
 use Rattle.evaluate.specs.declared.level.Sign.{Sign}

@@ -1,8 +1,7 @@
 -- One more row of a search through the rows. Assumes nothing.
-use Rattle.std.proofs.Common.{◌≡◌, ℕ, suc, ◌+◌, ◌-◌, ◌<◌, ◌≤◌, Bool, true, false, cond, eqb, List, [], ◌∷◌, length, get_or, drop, Some, None, Option, sym, refl, ap, ◌∙◌, arith}
+use Rattle.std.proofs.Common.{◌≡◌, ℕ, suc, ◌+◌, ◌-◌, ◌<◌, ◌≤◌, Bool, true, false, cond, eqb, List, length, get_or, drop, Some, None, sym, ap, ◌∙◌, arith}
 use Rattle.std.proofs.lemmas.List.{at_drop_more, at_drop_all}
 use Rattle.script.specs.declared.row.Row.{Row}
-use Rattle.script.specs.declared.row.Role.{Role}
 use Rattle.place.specs.Rows.{opens, closes, part, parts, depth_after, one_more, closing}
 
 module _ (rs : List Row) (i total : ℕ) where

@@ -1,12 +1,12 @@
 -- Braces in an array. Assumes nothing.
-use Rattle.std.proofs.Common.{◌≡◌, ℕ, zero, suc, ◌+◌, ◌-◌, ◌<◌, ◌≤◌, Bool, true, false, cond, ltb, List, [], ◌∷◌, length, get_or, set, Some, None, Option, sym, refl, ap, ◌∙◌, arith}
+use Rattle.std.proofs.Common.{◌≡◌, ℕ, ◌+◌, ◌-◌, ◌<◌, ◌≤◌, true, false, cond, ltb, List, ◌∷◌, length, get_or, set, Some, None, sym, ap, ◌∙◌, arith}
 use Rattle.std.proofs.lemmas.Bool.{lt-ltb, le-ltb}
 use Rattle.list.specs.Stacks.{stacked}
 use Rattle.list.proofs.Stacking.{push, pop, length_stacked}
 use Rattle.place.specs.declared.types.Frame.{Frame}
 use Rattle.place.specs.declared.types.Frame.TheVariants.{Turn}
 use Rattle.place.specs.declared.types.Place.{Place}
-use Rattle.place.specs.Places.{Spot, spot, spot_of, pushed, popped, top_of}
+use Rattle.place.specs.Places.{spot, pushed, popped, top_of}
 
 module _ (p : Place) where
   abbrev around : List Frame

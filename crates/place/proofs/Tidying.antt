@@ -1,9 +1,9 @@
 -- Going past what is over, one after the other. Assumes nothing.
-use Rattle.std.proofs.Common.{◌≡◌, ℕ, zero, suc, ◌+◌, ◌-◌, ◌<◌, ◌≤◌, Bool, true, false, cond, List, length, get_or, sym, refl, ap, ◌∙◌, arith}
+use Rattle.std.proofs.Common.{◌≡◌, ℕ, suc, ◌+◌, ◌-◌, ◌<◌, ◌≤◌, true, false, cond, List, length, sym, ap, ◌∙◌, arith}
 use Rattle.std.proofs.lemmas.List.{get_or_past}
 use Rattle.script.specs.declared.row.Row.{Row}
-use Rattle.place.specs.Rows.{head_of, row_at, no_row}
-use Rattle.place.specs.Places.{Left, left, Slip, stays, slips, slip, tidied}
+use Rattle.place.specs.Rows.{head_of, no_row}
+use Rattle.place.specs.Places.{Left, Slip, stays, slips, slip, tidied}
 
 module _ (all : List Row) where
   -- past the last row nothing is over

@@ -2,7 +2,6 @@
 -- Assumes nothing.
 use Rattle.std.specs.Prelude.{ℕ, zero, suc, ◌+◌, min, Bool, true, false, cond, ◌&&◌, List, [], ◌∷◌, length, Some, None, Option, nat_lt, slice_index_or, slice_set}
 use Rattle.list.specs.Stacks.{stacked}
-use Rattle.script.specs.declared.row.Role.{Role}
 use Rattle.script.specs.declared.row.Role.TheVariants as role
 use Rattle.script.specs.declared.row.Row.{Row}
 use Rattle.script.specs.Roles.{is}
@@ -12,7 +11,7 @@ use Rattle.place.specs.declared.types.Frame.{Frame}
 use Rattle.place.specs.declared.types.Frame.TheVariants.{Turn, Join, Close}
 use Rattle.place.specs.declared.types.Oldest.{Oldest}
 use Rattle.place.specs.declared.types.Place.{Place}
-use Rattle.place.specs.Rows.{head_of, row_at, closing, block_end, slice}
+use Rattle.place.specs.Rows.{head_of, row_at, block_end, slice}
 
 -- ---- the first power call among readings
 

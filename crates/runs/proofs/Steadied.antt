@@ -1,6 +1,6 @@
 -- Every step keeps a run steady.
 use Rattle.std.proofs.Common.{◌≡◌, ℕ, ◌+◌, ◌≤◌, Bool, true, cond, length, take, sym, ap, ◌∙◌, subst, arith}
-use Rattle.script.specs.Steps.{steps, readings, repeats, channels_below}
+use Rattle.script.specs.Steps.{repeats, channels_below}
 use Rattle.memory.specs.Model.{Model, Lawful}
 use Rattle.runs.specs.Machine.{Point, State, Job, tidied_state, ticked, Stepped, step}
 use Rattle.runs.specs.Steady.{ready, steps_left, closings, Within, Steady}

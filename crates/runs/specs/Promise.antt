@@ -1,14 +1,13 @@
 -- The promise: an accepted script never acts on a stale reading, and what it leaves is what an unbroken run leaves. Assumes nothing.
-use Rattle.std.specs.Prelude.{◌≡◌, ℕ, ◌≤◌, Bool, true, false, List, [], ◌∷◌, map, length, ℤ, Some, None}
+use Rattle.std.specs.Prelude.{◌≡◌, ℕ, ◌≤◌, true, List, [], ◌∷◌, map, ℤ, Some, None}
 use Rattle.script.specs.Syntax.{Script}
-use Rattle.script.specs.Steps.{need, cells}
-use Rattle.script.specs.Stand.{all_refused}
+use Rattle.script.specs.Steps.{need}
 use Rattle.script.specs.Unbroken.{Fed, unbroken}
 use Rattle.memory.specs.Model.{Model}
 use Rattle.runs.specs.declared.types.Reading.{Reading}
 use Rattle.runs.specs.declared.types.Call.{Call}
 use Rattle.runs.specs.Behind.{Fresh, stale}
-use Rattle.runs.specs.Machine.{Job, job_of, State, begun, power_of}
+use Rattle.runs.specs.Machine.{job_of, State, begun, power_of}
 use Rattle.runs.specs.Calls.{why_not, after_calls}
 
 -- what the unbroken run is fed: of each listed reading its channel and value

@@ -4,14 +4,14 @@ use Rattle.place.proofs.rows.parts_end.Goals as goal
 
 pub loop-i-preserved : goal.loop-i-preserved
 loop-i-preserved c = (
-  parts_more c.args.rows.now c.loop-i.i _ _ c.loop-i-test.true (sym c.if-is-part.ensures) c.loop-i.invariant.0,
+  parts_more c.args.rows.now c.loop-i.i _ _ c.loop-i-test.true (sym c.if-is_part.ensures) c.loop-i.invariant.0,
   omega (arith, c.loop-i.invariant.1, c.loop-i-test.true),
 )
 
-pub returns-else-is-part : goal.returns-else-is-part
-returns-else-is-part c = record {
+pub returns-else-is_part : goal.returns-else-is_part
+returns-else-is_part c = record {
   within = omega (arith, c.loop-i.invariant.1);
-  found = parts_stop c.args.rows.now c.loop-i.i _ _ c.loop-i-test.true (sym c.if-is-part.ensures) c.loop-i.invariant.0;
+  found = parts_stop c.args.rows.now c.loop-i.i _ _ c.loop-i-test.true (sym c.if-is_part.ensures) c.loop-i.invariant.0;
 }
 
 pub returns-after-loop-i : goal.returns-after-loop-i

@@ -1,4 +1,4 @@
-use Rattle.std.proofs.Common.{◌≡◌, ◌+◌, set, ap, ◌∙◌}
+use Rattle.std.proofs.Common.{◌+◌, set, ap, ◌∙◌}
 use Rattle.list.specs.Stacks.{stacked}
 use Rattle.evaluate.specs.Walk.{on, blank}
 use Rattle.evaluate.proofs.Levelled.{opens, opens_not}
