@@ -1,5 +1,5 @@
 -- How a run in the rows of a script stands for a run as crate runs defines it. Assumes nothing.
-use Rattle.std.specs.Prelude.{◌≡◌, ℕ, suc, ◌≤◌, min, Bool, true, false, List, [], ◌∷◌, map, length, drop, ℤ, slice_index_or}
+use Rattle.std.specs.Prelude.{◌≡◌, ℕ, suc, ◌≤◌, min, Bool, true, false, List, [], ◌∷◌, map, length, drop, slice_index_or}
 use Rattle.script.specs.declared.row.Role.TheVariants as role
 use Rattle.script.specs.declared.row.Row.{Row}
 use Rattle.script.specs.Syntax.{Leaf, Block, code, nothing}

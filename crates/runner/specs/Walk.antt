@@ -1,15 +1,14 @@
 -- What each step and each power call does to rows and frames. Nothing need be believed of this file: the proofs show that it is what
 -- crate runs defines of scripts. Assumes nothing.
-use Rattle.std.specs.Prelude.{ℕ, zero, suc, ◌+◌, ◌-◌, min, Bool, true, false, cond, List, [], ◌∷◌, ◌++◌, length, ℤ, pos, Some, None, Ok, Err, Option, Result, ◌==◌, nat_lt, slice_set}
+use Rattle.std.specs.Prelude.{ℕ, zero, suc, ◌+◌, ◌-◌, min, Bool, true, false, cond, List, length, ℤ, pos, Some, None, Ok, Err, Option, Result, ◌==◌, nat_lt, slice_set}
 use Rattle.script.specs.declared.fault.Fault.{Fault}
 use Rattle.script.specs.declared.row.Role.TheVariants as role
-use Rattle.script.specs.declared.row.Row.{Row}
 use Rattle.script.specs.Roles.{is}
 use Rattle.script.specs.Unbroken.{valued, is_zero}
 use Rattle.list.specs.Entries.{added, cut_back}
 use Rattle.host.specs.Readings.{read as host_read}
 use Rattle.memory.specs.declared.Spent.{Spent}
-use Rattle.memory.specs.Calls.{Call, Put, Open, Close, Mend}
+use Rattle.memory.specs.Calls.{Put, Open, Close, Mend}
 use Rattle.memory.specs.Model.{Model, answer, after}
 use Rattle.evaluate.specs.Walk.{worth}
 use Rattle.place.specs.declared.types.Head.{Head}

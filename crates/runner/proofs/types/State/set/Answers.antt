@@ -1,0 +1,13 @@
+use Rattle.std.proofs.Common.{◌≡◌, ◌+◌, true, sym, refl, ap, ◌∙◌}
+use Rattle.script.specs.declared.row.Role.{Role}
+use Rattle.script.specs.declared.row.Role.TheVariants as role
+use Rattle.script.specs.Roles.{is}
+use Rattle.place.specs.Rows.{row_at}
+use Rattle.reader.specs.Holding.{rows_in}
+use Rattle.runner.proofs.types.State.set.Goals as goal
+
+-- the row after the target's sign is that of an `in`
+pub returns-in-InWord-clause-exact : goal.returns-in-InWord-clause-exact
+returns-in-InWord-clause-exact g c =
+    let is_in : is (row_at (rows_in c.args.self.now.job.script) (c.args.row + 2)).role role.InWord ≡ true = ap (λ (r : Role). is r role.InWord) (sym c.role_at.ensures ∙ c.in-InWord.is) in
+    rw (is_in, c.read.ensures.free, c.read.ensures.stands, c.read.ensures.listed, c.take-reading.ensures (g.L.Journal.room c.args.list.now), c.value_at-channel.ensures) refl
