@@ -10,6 +10,7 @@ use anyhow::anyhow;
 use checker::accepted::Accepted;
 use show::print_refusal;
 use std::io::Read;
+use std::process::ExitCode;
 use std::{env, fs, io};
 
 const USAGE: &str =
@@ -84,13 +85,21 @@ fn run(rt: &HostRuntime, word: &str, file: Option<String>) -> anyhow::Result<()>
     }
 }
 
-fn main(rt: HostRuntime) -> anyhow::Result<()> {
-    let mut args = env::args(&rt)?;
+fn command(rt: &HostRuntime) -> anyhow::Result<()> {
+    let mut args = env::args(rt)?;
     let _program = args.next();
     let word = args.next();
     let file = args.next();
     match word {
-        Some(w) => run(&rt, w.as_str(), file),
-        None => usage(&rt),
+        Some(w) => run(rt, w.as_str(), file),
+        None => usage(rt),
+    }
+}
+
+// An error only makes the status 1: what there is to say of it was printed where it came up.
+fn main(rt: HostRuntime) -> ExitCode {
+    match command(&rt) {
+        Ok(()) => ExitCode::SUCCESS,
+        Err(_) => ExitCode::FAILURE,
     }
 }
