@@ -1,8 +1,7 @@
-// The runner: plays an accepted script, or any read one on trial, over power failures, with a host, a
-// memory and a list of readings that it holds by value. `open` and `trial` start a run; `power`, `cell` and
-// `reading` are the calls on it; `close` ends it and hands everything back. `play` makes all of these in
-// one call, and its contract is the promise. A run goes through the rows of its script; specs/Walk.antt
-// says what each call does to rows and frames, and the proofs show that this is what crate `runs` defines.
+// The beginnings of the runner, which is to play a script over power failures: each kind of step on a point
+// of a run (steps), and the step at a target (power). The calls that a user makes on a run are still to be
+// written, and nothing calls this crate yet. A run goes through the rows of its script; specs/Walk.antt says
+// what each call does to rows and frames. That this is what crate `runs` defines is still to be proved.
 #![tactic(auto)]
 
 mod power;
