@@ -18,9 +18,19 @@ WORD = re.compile(r"[^\s(){}\[\],;.:\"`⌜⌝«»|]+")
 OWN = ("check", "double", "evaluate", "heronnail", "host", "host_tests", "lexer", "list", "memory", "memory_demo",
        "parser", "place", "reader", "report", "runner", "runs", "script", "tests", "undo")
 
-# Where the plain spelling would fall together with another name in scope, or reads badly.
+# Names that have no hyphen, or are spelled otherwise than the rule has it: functions in camel case, and names in
+# clauses that port.py began with a capital.
 CHOSEN = {
     "Cells-of": "cells_of",
+    "Counted-of": "counted_of",
+    "CountedOf": "counted_of",
+    "Ended-of": "ended_of",
+    "EndedOf": "ended_of",
+    "Signed-of": "signed_of",
+    "SignedOf": "signed_of",
+    "Goes_on": "GoesOn",
+    "isEnd": "is_end",
+    "ruleOf": "rule_of",
     "rows_of_lem": "rows_of",
 }
 

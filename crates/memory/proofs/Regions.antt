@@ -3,7 +3,7 @@ use Rattle.std.proofs.Common.{◌≡◌, ℕ, Bool, true, false, cond, not, ◌&
 use Rattle.memory.specs.Meaning.{Meaning, after_put}
 use Rattle.memory.specs.Calls.{Call, Put, Open, Close, Mend, can}
 use Rattle.memory.specs.Model.{Model, Lawful, after}
-use Rattle.memory.specs.Regions.{Event, run, ending, Goes_on, AsIfNotBegun}
+use Rattle.memory.specs.Regions.{Event, run, ending, GoesOn, AsIfNotBegun}
 use Rattle.memory.proofs.Plans.{meaning_eq, no_way}
 
 module _ (m : Model) (law : Lawful m) where
@@ -46,7 +46,7 @@ module _ (m : Model) (law : Lawful m) where
         by true c = taken e.call e.units c g
         by false c = h
 
-  all : (kept : List ℤ) (w : m.State) (es : List Event) → Holds kept w → Goes_on m w es → Holds kept (run m w es)
+  all : (kept : List ℤ) (w : m.State) (es : List Event) → Holds kept w → GoesOn m w es → Holds kept (run m w es)
   all kept w [] h g = h
   all kept w (e ∷ es) h g = all kept (after m w e.call e.units) es (one kept w h e g.0) g.1
 

@@ -21,14 +21,14 @@ ending Close = true
 ending Mend = true
 
 -- none of the calls ends the region: each close and each mend among them is cut, or refused
-abbrev pub Goes_on : (m : Model) → m.State → List Event → Type 0
-Goes_on m w [] = Unit {0}
-Goes_on m w (e ∷ es) = ((ending e.call && (m.act w e.call e.units).answer.done) ≡ false) × Goes_on m (after m w e.call e.units) es
+abbrev pub GoesOn : (m : Model) → m.State → List Event → Type 0
+GoesOn m w [] = Unit {0}
+GoesOn m w (e ∷ es) = ((ending e.call && (m.act w e.call e.units).answer.done) ≡ false) × GoesOn m (after m w e.call e.units) es
 
 -- from the opened state w' on, calls that do not end the region and then a mend that is done lead back to what w means
 abbrev pub BackTo : (m : Model) → m.State → m.State → Type 0
 BackTo m w w' =
-    (es : List Event) (u : ℕ) → Goes_on m w' es → (m.act (run m w' es) Mend u).answer.done ≡ true → m.means (m.act (run m w' es) Mend u).after ≡ m.means w
+    (es : List Event) (u : ℕ) → GoesOn m w' es → (m.act (run m w' es) Mend u).answer.done ≡ true → m.means (m.act (run m w' es) Mend u).after ≡ m.means w
 
 -- so it is wherever a closed memory is opened
 abbrev pub AsIfNotBegun : Model → Type 0

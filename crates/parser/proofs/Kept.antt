@@ -13,7 +13,7 @@ use Rattle.parser.specs.declared.machine.Mark.TheVariants as mark
 use Rattle.parser.specs.declared.machine.Move.{Move}
 use Rattle.parser.specs.declared.machine.Move.TheVariants.{Stay, Push, Pop, Refuse}
 use Rattle.parser.specs.declared.machine.Want.TheVariants as want
-use Rattle.parser.specs.Machine.{State, at, run, turn, put, marked, otherwise, rule, isEnd}
+use Rattle.parser.specs.Machine.{State, at, run, turn, put, marked, otherwise, rule, is_end}
 use Rattle.parser.proofs.Sound.{Res, err_ok, ok_ok, put_ok}
 use Rattle.parser.proofs.Table.{Fits, fits}
 
@@ -56,7 +56,7 @@ nothing true f rs h = ap (map token) (ok_ok [] rs h)
 nothing false f rs h = err_ok f rs h
 
 pub kept : (end : ℕ) (ts : List Tok) (s : State) (rs : List Row) → run end ts s ≡ Ok rs → ts ≡ map token rs
-kept end [] s rs h = nothing (isEnd s.want) _ rs h
+kept end [] s rs h = nothing (is_end s.want) _ rs h
 kept end (t ∷ ts) s rs h = by (turned t (run end ts) rs (rule s.want t.sym) s.stack (otherwise ts) (fits s.want t.sym) h) (kept end ts)
   where
     by : Wrote t (run end ts) rs → ((s' : State) (us : List Row) → run end ts s' ≡ Ok us → ts ≡ map token us) → t ∷ ts ≡ map token rs

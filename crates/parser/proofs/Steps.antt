@@ -19,7 +19,7 @@ use Rattle.parser.specs.declared.machine.Move.{Move}
 use Rattle.parser.specs.declared.machine.Move.TheVariants.{Stay, Push, Pop, Refuse}
 use Rattle.parser.specs.declared.machine.Want.{Want}
 use Rattle.script.specs.Nesting.{opens, closes, open_after, nesting}
-use Rattle.parser.specs.Machine.{at, run, goes, turn, put, marked, given, moved, popped, after, closed, closing, top_closing, otherwise, ruleOf, start, stack_of, view_of, isEnd, is, Goes, Stops, Pops}
+use Rattle.parser.specs.Machine.{at, run, goes, turn, put, marked, given, moved, popped, after, closed, closing, top_closing, otherwise, rule_of, start, stack_of, view_of, is_end, is, Goes, Stops, Pops}
 use Rattle.parser.proofs.Table.{Fits, fits}
 use Rattle.parser.proofs.Depth.{Counted, counted_on, counted_off}
 
@@ -65,10 +65,10 @@ stayed s n e k =
 -- ---- one token
 
 module _ (m : Machine) (t : Tok) (b : Bool) where
-  fit : (v : Move) → v ≡ ruleOf m t → Fits v t.sym
+  fit : (v : Move) → v ≡ rule_of m t → Fits v t.sym
   fit v e = let P : Move → Type 0 = λ u. Fits u t.sym in subst P (sym e) (fits m.want t.sym)
 
-  pub stays : (r : Role) (w : Want) (row : Row) (m' : Machine) → Stay r w ≡ ruleOf m t → row ≡ marked r t → view_of m' ≡ at w (view_of m).stack → m.depth ≡ m'.depth → Goes m t b row m'
+  pub stays : (r : Role) (w : Want) (row : Row) (m' : Machine) → Stay r w ≡ rule_of m t → row ≡ marked r t → view_of m' ≡ at w (view_of m).stack → m.depth ≡ m'.depth → Goes m t b row m'
   stays r w row m' e g v d =
       let f = fit _ e in
       record {
@@ -77,7 +77,7 @@ module _ (m : Machine) (t : Tok) (b : Bool) where
         depth = stayed t.sym m.depth f.1 f.2 ∙ ap Some d;
       }
 
-  pub pushes : (r : Role) (f : Frame) (w : Want) (row : Row) → Push r f w ≡ ruleOf m t → row ≡ marked r t → m.depth < length m.stack → m.depth < 16 → Goes m t b row (record { want = w; stack = set m.stack m.depth f; depth = m.depth + 1 })
+  pub pushes : (r : Role) (f : Frame) (w : Want) (row : Row) → Push r f w ≡ rule_of m t → row ≡ marked r t → m.depth < length m.stack → m.depth < 16 → Goes m t b row (record { want = w; stack = set m.stack m.depth f; depth = m.depth + 1 })
   pushes r f w row e g h k =
       record {
         state = ap (λ u. moved u (view_of m).stack) (sym e) ∙ ap (λ l. Some (at w l)) (sym (rw add-one (stackOf_push m.stack m.depth f h)));
@@ -85,10 +85,10 @@ module _ (m : Machine) (t : Tok) (b : Bool) where
         depth = opened t.sym m.depth (fit _ e).1 k;
       }
 
-  pub overflows : (r : Role) (f : Frame) (w : Want) (x : Fault) → Push r f w ≡ ruleOf m t → 16 ≤ m.depth → Stops m t x
+  pub overflows : (r : Role) (f : Frame) (w : Want) (x : Fault) → Push r f w ≡ rule_of m t → 16 ≤ m.depth → Stops m t x
   overflows r f w x e h = inr (too_deep t.sym m.depth (fit _ e).1 h)
 
-  pub refuses : (f : Fault) → Refuse ≡ ruleOf m t → f ≡ fault 6 t.place → Stops m t f
+  pub refuses : (f : Fault) → Refuse ≡ rule_of m t → f ≡ fault 6 t.place → Stops m t f
   refuses f e g = inl (ap (λ u. moved u (view_of m).stack) (sym e), g)
 
   module _ (k : Mark) where
@@ -105,7 +105,7 @@ module _ (m : Machine) (t : Tok) (b : Bool) where
     pub pops_none : 0 < m.depth → None ≡ closed k (get_or m.stack (m.depth - 1) Main) → popped k (view_of m).stack ≡ None
     pops_none h e = ap (popped k) (stackOf_top m.stack m.depth h) ∙ ap (λ o. after o (stack_of m.stack (m.depth - 1))) (sym e)
 
-    pub pops : (r : Result Row Fault) (m' : Machine) → Pop k ≡ ruleOf m t → MatchResult r (λ row. Pops m k t b row m') (λ f. (popped k (view_of m).stack ≡ None) × (f ≡ fault 6 t.place)) → MatchResult r (λ row. Goes m t b row m') (λ f. Stops m t f)
+    pub pops : (r : Result Row Fault) (m' : Machine) → Pop k ≡ rule_of m t → MatchResult r (λ row. Pops m k t b row m') (λ f. (popped k (view_of m).stack ≡ None) × (f ≡ fault 6 t.place)) → MatchResult r (λ row. Goes m t b row m') (λ f. Stops m t f)
     pops r m' e c =
         MatchResult-weaker r c
         (λ row p. record {
@@ -142,11 +142,11 @@ module _ {end : ℕ} {toks : List Tok} {m : Machine} {before out : List Row} {i 
   untouched h = drop_further out before i (length toks) h so.kept
 
   module _ (lt : i < length toks) (t : Tok) (is_t : get_or toks i t ≡ t) where
-    to : join (take i out) (turn t (ruleOf m t) (view_of m).stack (otherwise (drop (i + 1) toks)) (run end (drop (i + 1) toks))) ≡ run end toks start
+    to : join (take i out) (turn t (rule_of m t) (view_of m).stack (otherwise (drop (i + 1) toks)) (run end (drop (i + 1) toks))) ≡ run end toks start
     to = sym (ap (join (take i out)) (at_drop_more (λ l. run end l (view_of m)) toks i t lt ∙ ap (λ u. run end (u ∷ drop (i + 1) toks) (view_of m)) is_t)) ∙ so.same
 
     pub stops : (f : Fault) → nesting toks ≡ None → Stops m t f → run end toks start ≡ Err f
-    stops f n (inl p) = sym to ∙ ap (λ o. join (take i out) (goes t (given (ruleOf m t) (view_of m).stack (otherwise (drop (i + 1) toks))) o (run end (drop (i + 1) toks)))) p.0 ∙ ap Err (sym p.1)
+    stops f n (inl p) = sym to ∙ ap (λ o. join (take i out) (goes t (given (rule_of m t) (view_of m).stack (otherwise (drop (i + 1) toks))) o (run end (drop (i + 1) toks)))) p.0 ∙ ap Err (sym p.1)
     stops f n (inr p) = let e = counted_off so.count lt t is_t p in let z : ◌≡◌ {A = ℕ} 0 1 = cc in absurd (omega arith)
 
     pub sofar_more : (m' : Machine) (r : Row) (b : Bool) → b ≡ otherwise (drop (i + 1) toks) → Goes m t b r m' → Sofar end toks m' before (set out i r) (i + 1)
@@ -156,18 +156,18 @@ module _ {end : ℕ} {toks : List Tok} {m : Machine} {before out : List Row} {i 
           count = counted_on so.count lt t is_t m'.depth g.depth;
           long = rw length-set so.long;
           kept = drop-set-lt (i + 1) out i r (omega arith) ∙ drop_further out before i (i + 1) (omega arith) so.kept;
-          same = rw (take_more_set out i r h) (sym (join_put (take i out) r _) ∙ ap (λ x. join (take i out) (put x (run end (drop (i + 1) toks) (view_of m')))) (g.row ∙ ap (λ x. marked (given (ruleOf m t) (view_of m).stack x) t) o) ∙ sym (ap (λ o. join (take i out) (goes t (given (ruleOf m t) (view_of m).stack (otherwise (drop (i + 1) toks))) o (run end (drop (i + 1) toks)))) g.state) ∙ to);
+          same = rw (take_more_set out i r h) (sym (join_put (take i out) r _) ∙ ap (λ x. join (take i out) (put x (run end (drop (i + 1) toks) (view_of m')))) (g.row ∙ ap (λ x. marked (given (rule_of m t) (view_of m).stack x) t) o) ∙ sym (ap (λ o. join (take i out) (goes t (given (rule_of m t) (view_of m).stack (otherwise (drop (i + 1) toks))) o (run end (drop (i + 1) toks)))) g.state) ∙ to);
         }
 
-  at_end : length toks ≤ i → join (take i out) (cond (isEnd m.want) (Ok []) (Err (fault 6 end))) ≡ run end toks start
+  at_end : length toks ≤ i → join (take i out) (cond (is_end m.want) (Ok []) (Err (fault 6 end))) ≡ run end toks start
   at_end h = sym (ap (join (take i out)) (at_drop_all (λ l. run end l (view_of m)) toks i h)) ∙ so.same
 
-  pub ends : length toks ≤ i → i ≤ length toks → isEnd m.want ≡ true → run end toks start ≡ Ok (take (length toks) out)
+  pub ends : length toks ≤ i → i ≤ length toks → is_end m.want ≡ true → run end toks start ≡ Ok (take (length toks) out)
   ends h k e =
       let z : i ≡ length toks = omega arith in
       sym (at_end h) ∙ ap (λ b. join (take i out) (cond b (Ok []) (Err (fault 6 end)))) e ∙ ap Ok (append-nil (take i out)) ∙ ap (λ j. Ok (take j out)) z
 
-  pub short : length toks ≤ i → isEnd m.want ≡ false → run end toks start ≡ Err (fault 6 end)
+  pub short : length toks ≤ i → is_end m.want ≡ false → run end toks start ≡ Err (fault 6 end)
   short h e = sym (at_end h) ∙ ap (λ b. join (take i out) (cond b (Ok []) (Err (fault 6 end)))) e
 
 -- ---- whether an else comes next

@@ -19,7 +19,7 @@ use Rattle.parser.specs.declared.machine.Mark.TheVariants as mark
 use Rattle.parser.specs.declared.machine.Move.{Move}
 use Rattle.parser.specs.declared.machine.Move.TheVariants.{Pop}
 use Rattle.parser.specs.Machine as machine
-use Rattle.parser.specs.Machine.{State, at, run, goes, put, marked, given, moved, otherwise, start, is, on, rule, isEnd}
+use Rattle.parser.specs.Machine.{State, at, run, goes, put, marked, given, moved, otherwise, start, is, on, rule, is_end}
 use Rattle.parser.proofs.Sound.{Res, err_ok, script_of}
 use Rattle.parser.proofs.Kept.{kept}
 use Rattle.parser.proofs.Complete.{script_read}
@@ -393,7 +393,7 @@ at_nil true f g h = err_ok g [] (sym' h)
 at_nil false f g h = err_err f g h
 
 viable : (end : ℕ) (ts : List Tok) (s : State) (f : Fault) → Rooted s.want s.stack → run end ts s ≡ Err f → Stuck end ts s f ⊎ Short end ts s f
-viable end [] s f h e = let r = completes end s.want s.stack h in inr (record { is_fault = at_nil (isEnd s.want) _ f e; onward = r.0; before = r.1 })
+viable end [] s f h e = let r = completes end s.want s.stack h in inr (record { is_fault = at_nil (is_end s.want) _ f e; onward = r.0; before = r.1 })
 viable end (t ∷ ts) s f h e = by_move (moved (rule s.want t.sym) s.stack) refl (holds s.want t.sym s.stack h) (viable end ts) e
   where
     by_move : (o : Option State) → moved (rule s.want t.sym) s.stack ≡ o → Holds o → ((s' : State) (x : Fault) → Rooted s'.want s'.stack → run end ts s' ≡ Err x → Stuck end ts s' x ⊎ Short end ts s' x) → goes t (given (rule s.want t.sym) s.stack (otherwise ts)) o (run end ts) ≡ Err f → Stuck end (t ∷ ts) s f ⊎ Short end (t ∷ ts) s f

@@ -168,34 +168,34 @@ closing frame.Body b = role.BodyClose
 closing frame.Region b = role.RegionClose
 closing (frame.Paren e c) b = role.ParenClose
 
-abbrev pub isEnd : Want → Bool
-isEnd want.Decl = false
-isEnd want.CellName = false
-isEnd want.CellIs = false
-isEnd want.CellValue = false
-isEnd want.CellNumber = false
-isEnd want.CellEnd = false
-isEnd want.VarName = false
-isEnd want.VarEnd = false
-isEnd want.FreshName = false
-isEnd want.FreshEnd = false
-isEnd want.MainOpen = false
-isEnd want.Stmt = false
-isEnd want.Over = false
-isEnd want.Becomes = false
-isEnd want.Source = false
-isEnd want.Channel = false
-isEnd want.ReadEnd = false
-isEnd (want.Operand e c) = false
-isEnd (want.Negated e c) = false
-isEnd (want.More e c) = false
-isEnd want.Count = false
-isEnd want.BodyOpen = false
-isEnd want.RegionOpen = false
-isEnd want.ElseOpen = false
-isEnd want.Listed = false
-isEnd want.ListMore = false
-isEnd want.End = true
+abbrev pub is_end : Want → Bool
+is_end want.Decl = false
+is_end want.CellName = false
+is_end want.CellIs = false
+is_end want.CellValue = false
+is_end want.CellNumber = false
+is_end want.CellEnd = false
+is_end want.VarName = false
+is_end want.VarEnd = false
+is_end want.FreshName = false
+is_end want.FreshEnd = false
+is_end want.MainOpen = false
+is_end want.Stmt = false
+is_end want.Over = false
+is_end want.Becomes = false
+is_end want.Source = false
+is_end want.Channel = false
+is_end want.ReadEnd = false
+is_end (want.Operand e c) = false
+is_end (want.Negated e c) = false
+is_end (want.More e c) = false
+is_end want.Count = false
+is_end want.BodyOpen = false
+is_end want.RegionOpen = false
+is_end want.ElseOpen = false
+is_end want.Listed = false
+is_end want.ListMore = false
+is_end want.End = true
 
 -- ---- the machine
 
@@ -254,7 +254,7 @@ turn t m fs b k = goes t (given m fs b) (moved m fs) k
 
 -- the rows of the tokens from a state on; `end` is the text's length
 abbrev pub run : ℕ → List Tok → State → Result (List Row) Fault
-run end [] s = cond (isEnd s.want) (Ok []) (Err (fault 6 end))
+run end [] s = cond (is_end s.want) (Ok []) (Err (fault 6 end))
 run end (t ∷ ts) s = turn t (rule s.want t.sym) s.stack (otherwise ts) (run end ts)
 
 abbrev pub start : State
@@ -270,18 +270,18 @@ stack_of fs (suc n) = slice_index_or fs n frame.Main ∷ stack_of fs n
 abbrev pub view_of : Machine → State
 view_of m = at m.want (stack_of m.stack m.depth)
 
-abbrev pub ruleOf : Machine → Tok → Move
-ruleOf m t = rule m.want t.sym
+abbrev pub rule_of : Machine → Tok → Move
+rule_of m t = rule m.want t.sym
 
 -- a token takes the machine on, as a row
 pub record Goes (m : Machine) (t : Tok) (b : Bool) (r : Row) (m' : Machine) : Type 0 where
-  pub state : moved (ruleOf m t) (view_of m).stack ≡ Some (view_of m')
-  pub row : r ≡ marked (given (ruleOf m t) (view_of m).stack b) t
+  pub state : moved (rule_of m t) (view_of m).stack ≡ Some (view_of m')
+  pub row : r ≡ marked (given (rule_of m t) (view_of m).stack b) t
   pub depth : open_after t.sym m.depth ≡ Some m'.depth
 
 -- a token stops it: it is refused, or too deep
 abbrev pub Stops : Machine → Tok → Fault → Type 0
-Stops m t f = ((moved (ruleOf m t) (view_of m).stack ≡ None) × (f ≡ fault 6 t.place)) ⊎ (open_after t.sym m.depth ≡ None)
+Stops m t f = ((moved (rule_of m t) (view_of m).stack ≡ None) × (f ≡ fault 6 t.place)) ⊎ (open_after t.sym m.depth ≡ None)
 
 -- the same of a closing mark, by what is open
 pub record Pops (m : Machine) (mark : Mark) (t : Tok) (b : Bool) (r : Row) (m' : Machine) : Type 0 where

@@ -3,7 +3,7 @@ ghost use Rattle.std.specs.Prelude.{◌≡◌, ◌≤◌, true, false, [], ◌�
 ghost use Rattle.script.specs.declared.row.Role.TheVariants.{MainWord, CellMinus, CellNumber};
 ghost use Rattle.script.specs.Numbers.{declared as declared_of, all_fit};
 ghost use Rattle.script.specs.Roles.{is};
-ghost use Rattle.reader.specs.Listed.{signed as SignedOf, listed, numbers_in};
+ghost use Rattle.reader.specs.Listed.{signed as signed_of, listed, numbers_in};
 ghost use Rattle.reader.specs.Holding.{syntax};
 
 use crate::drive::Script;
@@ -58,7 +58,7 @@ fn is_number(role: Role) -> bool
 // A written number, below 0 after a minus.
 fn signed(minus: bool, value: u32) -> i32
     requires { value ≤ 2147483647 }
-    ensures { result ≡ SignedOf minus value }
+    ensures { result ≡ signed_of minus value }
 {
     if minus { -(value as i32) } else { value as i32 }
 }

@@ -1,7 +1,7 @@
 // Question 12: how many steps and readings a script has at most, by one walk of its rows. The numbers
 // stop rising just past their limits, so that nothing overflows and the comparison is still right.
 ghost use Rattle.std.specs.Prelude.{◌≡◌, ◌+◌, ◌-◌, ◌*◌, ◌^◌, ◌<◌, ◌≤◌, min, max, [], ◌∷◌, length};
-ghost use Rattle.reader.specs.Count.{add as add_of, multiply as multiply_of, larger as larger_of, ended as EndedOf, flipped as flipped_of, does, view, enter as enter_of, leave as leave_of, flip as flip_of, more as more_of, count as count_of, acc, none};
+ghost use Rattle.reader.specs.Count.{add as add_of, multiply as multiply_of, larger as larger_of, ended as ended_of, flipped as flipped_of, does, view, enter as enter_of, leave as leave_of, flip as flip_of, more as more_of, count as count_of, acc, none};
 
 use crate::count::{Outer, Tally, Total};
 use script::row::{Role, Row};
@@ -58,7 +58,7 @@ impl Total {
 impl Outer {
     // The count outside a block with that of the block, which ends.
     fn ended(self, here: Total) -> Total
-        ensures { result ≡ EndedOf self here }
+        ensures { result ≡ ended_of self here }
     {
         match self {
             Outer::Repeat(n, outer) => outer.add(here.multiply(n)),

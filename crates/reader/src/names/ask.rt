@@ -1,7 +1,7 @@
 // Questions 7 to 11, each put to all rows, and the numbering of the names.
 ghost use Rattle.std.specs.Prelude.{◌≡◌, ◌+◌, ◌^◌, ◌<◌, ◌≤◌, not, ◌&&◌, ◌||◌, [], ◌∷◌, map, length, take, None};
 ghost use Rattle.script.specs.Faults.{answer};
-ghost use Rattle.script.specs.Names.{counted as CountedOf, full, crowded, twice, undeclared, into_cell, out_of_range, numbered, among, no_row};
+ghost use Rattle.script.specs.Names.{counted as counted_of, full, crowded, twice, undeclared, into_cell, out_of_range, numbered, among, no_row};
 ghost use Rattle.script.specs.Roles.{is, declares, mentions, those, first_row};
 ghost use Rattle.script.specs.declared.row.Role.TheVariants.{Target, InWord};
 
@@ -12,7 +12,7 @@ use script::row::{Role, Row};
 
 fn counted(yes: bool, n: usize) -> usize
     requires { n < 2 ^ 32 }
-    ensures { result ≡ CountedOf yes n }
+    ensures { result ≡ counted_of yes n }
 {
     if yes { n + 1 } else { n }
 }
