@@ -1,5 +1,5 @@
 -- The walk over the rows of an expression gives its value. Assumes nothing.
-use Rattle.std.proofs.Common.{◌≡◌, ℕ, suc, ◌<◌, ◌≤◌, true, cond, ltb, List, [], ◌∷◌, length, ℤ, pos, ◌*ℤ◌, refl, ap, ◌∙◌, arith, ltb-true}
+use Rattle.std.proofs.Common.{◌≡◌, ℕ, suc, ◌<◌, ◌≤◌, true, cond, ltb, List, [], ◌∷◌, length, ℤ, pos, ◌*ℤ◌, refl, ap, ◌∙◌, subst, arith, ltb-true}
 use Rattle.std.proofs.lemmas.Bool.{lt-ltb}
 use Rattle.script.specs.declared.row.Role.TheVariants as role
 use Rattle.script.specs.declared.row.Row.{Row}
@@ -123,3 +123,7 @@ module _ (v : ℕ → ℤ) where
   -- the rows of an expression, in a text with so many braces open
   pub worth_expr : (e : Expr) (d : ℕ) → shallow d (text_expr e []) ≡ true → worth v (text_expr e []) ≡ value v e
   worth_expr e d q = walk_expr e [] d [] (omega arith) q ∙ finish_expr e
+
+  -- the same of a list that is those rows
+  pub worth_rows : (rs : List Row) (e : Expr) → rs ≡ text_expr e [] → shallow 0 rs ≡ true → worth v rs ≡ value v e
+  worth_rows rs e is deep = ap (worth v) is ∙ worth_expr e 0 (subst (λ l. shallow 0 l ≡ true) is deep)

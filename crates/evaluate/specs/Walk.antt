@@ -1,12 +1,15 @@
--- A walk over the rows of an expression, from left to right. Nothing need be believed of this file: on the rows of an expression the
--- walk gives its value, as the runner's promises have it. Assumes nothing.
-use Rattle.std.specs.Prelude.{ℕ, cond, List, [], ◌∷◌, length, ℤ, pos, ◌+ℤ◌, ◌-ℤ◌, ◌*ℤ◌, int_lt, nat_lt}
+-- A walk over the rows of an expression, from left to right. Of this file only `IsValueOf` need be believed: it says what the walk comes
+-- to on the rows of an expression. Assumes nothing.
+use Rattle.std.specs.Prelude.{◌≡◌, ℕ, true, cond, List, [], ◌∷◌, length, ℤ, pos, ◌+ℤ◌, ◌-ℤ◌, ◌*ℤ◌, int_lt, nat_lt}
 use Rattle.list.specs.Stacks.{stacked}
 use Rattle.script.specs.declared.row.Role.{Role}
 use Rattle.script.specs.declared.row.Role.TheVariants as role
 use Rattle.script.specs.declared.row.Row.{Row}
 use Rattle.script.specs.Roles.{is}
-use Rattle.script.specs.Values.{wrapped, quotient, truth, equal}
+use Rattle.script.specs.Syntax.{Expr}
+use Rattle.script.specs.Written.{text_expr}
+use Rattle.script.specs.Values.{wrapped, quotient, truth, equal, value}
+use Rattle.checker.specs.Limits.{shallow}
 use Rattle.evaluate.specs.declared.level.Side.{Side}
 use Rattle.evaluate.specs.declared.level.Side.TheVariants as side
 use Rattle.evaluate.specs.declared.level.Sign.{Sign}
@@ -135,3 +138,7 @@ worth v rs = walk v rs blank []
 
 abbrev pub at_of : Levels → At
 at_of s = on s.here (stacked blank s.outer s.depth)
+
+-- z is the value of each expression that the rows are, where names have the values v; at most 16 of its parentheses are open at once
+abbrev pub IsValueOf : (ℕ → ℤ) → List Row → ℤ → Type 0
+IsValueOf v rs z = (e : Expr) → rs ≡ text_expr e [] → shallow 0 rs ≡ true → z ≡ value v e

@@ -1,7 +1,7 @@
 // The walk over an expression's rows.
 ghost use Rattle.std.specs.Prelude.{◌≡◌, ℕ, ◌-◌, cond, List, [], length, pos};
 ghost use Rattle.script.specs.Unbroken.{valued};
-ghost use Rattle.evaluate.specs.Walk.{applied, factor as factor_of, summed, total as total_of, compared, finish as finish_of, blank, on, opened, closed, does, operand as operand_of, worth, at_of};
+ghost use Rattle.evaluate.specs.Walk.{applied, factor as factor_of, summed, total as total_of, compared, finish as finish_of, blank, on, opened, closed, does, operand as operand_of, worth, at_of, IsValueOf};
 
 use crate::arithmetic;
 use crate::level::{By, Level, Levels, Side, Sign};
@@ -199,7 +199,8 @@ fn operand<M: Memory>(row: &Row, cells: usize, memory: &M, locals: &[i32; 64]) -
 
 // The value of an expression, by its rows.
 pub fn evaluate<M: Memory>(rows: &[Row], cells: usize, memory: &M, locals: &[i32; 64]) -> i32
-    ensures { result ≡ worth (valued cells (M.Memory.model.means (M.Memory.state memory.now)).current locals.now) rows.now }
+    ensures walked { result ≡ worth (valued cells (M.Memory.model.means (M.Memory.state memory.now)).current locals.now) rows.now }
+    ensures value { IsValueOf (valued cells (M.Memory.model.means (M.Memory.state memory.now)).current locals.now) rows.now result }
 {
     let mut levels = Levels::new();
     for row in rows {

@@ -30,7 +30,7 @@ impl Place {
     pub fn enter(&mut self, frame: Frame, row: usize)
         ensures { spot_of self.new ≡ spot row (pushed frame (spot_of self.old).frames) }
     {
-        self.row = row;
+        self.go(row);
         if self.depth < 16 {
             self.frames[self.depth] = frame;
             self.depth += 1;
@@ -41,7 +41,7 @@ impl Place {
     pub fn leave(&mut self, row: usize)
         ensures { spot_of self.new ≡ spot row (popped (spot_of self.old).frames) }
     {
-        self.row = row;
+        self.go(row);
         if self.depth > 0 {
             self.depth -= 1;
         }
