@@ -1,1 +1,1 @@
-pub mod Stacking
+pub mod Fixing

@@ -1,9 +1,13 @@
-// A list of entries over a slice that its user lends: one list for every kind of entry. An entry is
-// added at the end while there is room, the entries are read by their index, and the list is cut back
-// to an earlier length. Each of these says whether it was done; where it was not, the list is as it was.
-// The list never allocates and never grows past the slice. `Journal` is what a run asks of a list, so
-// that it can hold one by value whatever the list is made of.
+// Lists of entries that never allocate, for every kind of entry. `Log` lies over a slice that its user
+// lends: an entry is added at the end while there is room, the entries are read by their index, and the
+// list is cut back to an earlier length; each of these says whether it was done, and where it was not, the
+// list is as it was. `Journal` is what a run asks of such a list, so that it can hold one by value whatever
+// the list is made of. `Fixed` holds its entries itself, at most N of them, and is copied as a value is: a
+// table, or a stack whose top is the last entry.
 #![tactic(auto)]
+
+pub mod fixed;
+pub mod slots;
 
 ghost use Rattle.std.specs.Prelude.{◌≡◌, ℕ, List, [], length, take, nat_le, nat_lt};
 ghost use Rattle.std.specs.List.{slice_get};
@@ -40,7 +44,8 @@ pub trait Journal<T> {
         ensures kept { room self.new ≡ room self.old };
 }
 
-// The first `len` of the slots that are lent.
+// The first `len` of the slots that are lent: a length beside a slice, since its user has the room and
+// takes it back.
 #[derive(Drop)]
 pub struct Log<'a, T> {
     slots: &'a mut [T],
@@ -63,11 +68,7 @@ impl<'a, T: Copy> Journal<T> for Log<'a, T> {
     ghost room = { λ e. length e.slots.now };
 
     fn count(&self) -> usize {
-        if self.len < self.slots.len() {
-            self.len
-        } else {
-            self.slots.len()
-        }
+        self.len.min(self.slots.len())
     }
 
     fn capacity(&self) -> usize {
@@ -76,11 +77,7 @@ impl<'a, T: Copy> Journal<T> for Log<'a, T> {
 
     fn get(&self, i: usize) -> Option<T> {
         let slots: &[T] = self.slots;
-        if i < self.len && i < slots.len() {
-            Some(slots[i])
-        } else {
-            None
-        }
+        slots[..self.count()].get(i).copied()
     }
 
     fn add(&mut self, x: T) -> bool {
@@ -93,7 +90,7 @@ impl<'a, T: Copy> Journal<T> for Log<'a, T> {
     }
 
     fn cut(&mut self, n: usize) -> bool {
-        if n > self.len || n > self.slots.len() {
+        if n > self.count() {
             return false;
         }
         self.len = n;

@@ -1,4 +1,5 @@
 pub mod Faults
+pub mod Refusals
 pub mod Tokens
 pub mod Syntax
 pub mod Written

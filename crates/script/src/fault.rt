@@ -2,7 +2,10 @@
 ghost use Rattle.std.specs.Prelude.{◌≡◌};
 ghost use Rattle.script.specs.Faults.{fault, layer_of};
 
-#[derive(Clone, Copy, PartialEq, Debug)]
+use std::error::Error;
+use std::fmt;
+
+#[derive(Clone, Copy, PartialEq, Eq, Debug)]
 pub enum Layer {
     Text,
     Names,
@@ -13,14 +16,15 @@ pub enum Layer {
     Host,
 }
 
-#[derive(Clone, Copy)]
+// The number and not a `Refusal`: it is what a caller is promised, and `new` takes any number.
+#[derive(Clone, Copy, PartialEq, Eq, Debug)]
 pub struct Fault {
     pub number: u8,
     pub place: usize,
     pub layer: Layer,
 }
 
-// Which layer the question of a number belongs to.
+// Which layer the question of a number belongs to. It answers for any number, and so takes no `Refusal`.
 pub fn layer_of(number: u8) -> Layer
     ensures { result ≡ layer_of number }
 {
@@ -46,3 +50,29 @@ impl Fault {
         }
     }
 }
+
+impl fmt::Display for Layer {
+    fn fmt<W: fmt::Write>(&self, f: &mut fmt::Formatter<W>) -> fmt::Result {
+        f.write_str(match self {
+            Layer::Text => "text",
+            Layer::Names => "names",
+            Layer::Regions => "regions",
+            Layer::Run => "run",
+            Layer::Memory => "memory",
+            Layer::Table => "table",
+            Layer::Host => "host",
+        })
+    }
+}
+
+impl fmt::Display for Fault {
+    fn fmt<W: fmt::Write>(&self, f: &mut fmt::Formatter<W>) -> fmt::Result {
+        write!(
+            f,
+            "refused by {} ({}) at {}",
+            self.number, self.layer, self.place
+        )
+    }
+}
+
+impl Error for Fault {}

@@ -2,7 +2,7 @@
 // rows, one for each token, in the order of the text. The value is that of a number or, once names
 // are numbered, the number of a name.
 
-#[derive(Clone, Copy)]
+#[derive(Clone, Copy, PartialEq, Eq, Debug, Default)]
 pub enum Role {
     // declarations: `cell NAME = [-] NUMBER ;`, `var NAME ;`, `fresh NAME ;`
     CellWord,
@@ -18,6 +18,7 @@ pub enum Role {
     FreshName,
     FreshEnd,
     // main and its block
+    #[default]
     MainWord,
     MainOpen,
     MainClose,
@@ -63,7 +64,9 @@ pub enum Role {
     Same,
 }
 
-#[derive(Clone, Copy)]
+// The value stands beside the role, since 11 of the 51 roles have one: in the role, each of them would be
+// matched where now one field is read.
+#[derive(Clone, Copy, PartialEq, Eq, Debug, Default)]
 pub struct Row {
     pub role: Role,
     pub place: usize,
