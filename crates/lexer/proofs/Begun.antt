@@ -1,15 +1,18 @@
 -- The token that a byte begins, by the test that the byte meets. Assumes nothing.
-use Rattle.std.proofs.Common.{◌≡◌, ℕ, ◌+◌, ◌-◌, ◌<◌, ◌≤◌, Bool, true, false, cond, ◌&&◌, ◌||◌, eqb, ltb, List, ◌∷◌, length, get_or, take, drop, Some, Option, sym, refl, ap, ◌∙◌, inl, inr, arith}
+use Rattle.std.proofs.Common.{◌≡◌, ℕ, ◌+◌, ◌-◌, ◌<◌, ◌≤◌, Bool, true, false, cond, ◌&&◌, ◌||◌, eqb, ltb, List, [], ◌∷◌, length, get_or, take, drop, Some, None, Ok, Err, Option, sym, refl, ap, ◌∙◌, inl, inr, arith}
 use Rattle.std.specs.List.{prefix_len}
+use Rattle.std.specs.Option.{option_map}
 use Rattle.std.proofs.lemmas.Bool.{eqb-true, ltb-true, ltb-false, and_parts, and_cases, and_right, or_parts}
+use Rattle.script.specs.declared.fault.Fault.{Fault}
 use Rattle.script.specs.declared.token.Sym.{Sym}
 use Rattle.script.specs.declared.token.Sym.TheVariants as sym
 use Rattle.script.specs.declared.token.Tok.{Tok}
-use Rattle.script.specs.Tokens.{digit, letter, part, mark, mark_of, word, value_of, tok, token_of}
+use Rattle.script.specs.Faults.{fault}
+use Rattle.script.specs.Tokens.{blank, digit, letter, part, mark, mark_of, word, value_of, tok, token_of, after}
 use Rattle.lexer.specs.declared.scan.Token.{Token}
 use Rattle.lexer.specs.declared.scan.Token.TheVariants.{Word, Number, Mark}
-use Rattle.lexer.specs.Plain.{bytes, plain, known, sym_of_mark}
-use Rattle.lexer.proofs.Steps.{cut, cut_length, next_byte, no_next}
+use Rattle.lexer.specs.Plain.{bytes, plain, known, sym_of_mark, rest, Lies, Found}
+use Rattle.lexer.proofs.Steps.{cut, cut_length, next_byte, no_next, counted, run_within, run_stops, rest_start, rest_end, rest_stray, rest_token}
 
 pub plain_len : (t : Token) (p : ℕ) → (plain t p).len ≡ length (bytes t)
 plain_len (Word w) p = refl
@@ -51,30 +54,34 @@ module _ (i b : ℕ) (bs : List ℕ) where
       ap (λ v. cond v as_number (cond (letter b) as_word (mark_of i b bs (mark b)))) d
       ∙ ap (λ v. cond v as_word (mark_of i b bs (mark b))) l
 
-module _ (s : List ℕ) (i end : ℕ) (lt : i < length s) (within : end ≤ length s) where
-  pub number_at : end ≡ i + 1 + prefix_len digit (drop (i + 1) s) → digit (get_or s i 0) ≡ true
-      → Some (tok sym.Number i (length (Part s i (end - i))) (value_of (Part s i (end - i)))) ≡ token_of i (get_or s i 0) (drop (i + 1) s)
-  number_at e d =
-      let b : ℕ = get_or s i 0 in
-      let bs : List ℕ = drop (i + 1) s in
-      let k : ℕ = prefix_len digit bs in
-      let n : end - i ≡ 1 + k = omega arith in
-      let long : length (Part s i (end - i)) ≡ 1 + k = cut_length s i (end - i) (omega arith) ∙ n in
-      ap (λ m. Some (tok sym.Number i m (value_of (Part s i (end - i))))) long
-      ∙ ap (λ w. Some (tok sym.Number i (1 + k) (value_of w))) (cut s i k (end - i) lt n)
-      ∙ sym (token_digit i b bs d)
+-- n bytes behind the one at i pass the test
+module _ (s : List ℕ) (i n : ℕ) (lt : i < length s) where
+  abbrev Whole : List ℕ
+  Whole = Part s i (i + 1 + n - i)
 
-  pub word_at : end ≡ i + 1 + prefix_len part (drop (i + 1) s) → digit (get_or s i 0) ≡ false → part (get_or s i 0) ≡ true
-      → Some (tok (word (Part s i (end - i))) i (length (Part s i (end - i))) 0) ≡ token_of i (get_or s i 0) (drop (i + 1) s)
+  module _ (p : ℕ → Bool) (e : n ≡ prefix_len p (take (length s - (i + 1)) (drop (i + 1) s))) where
+    size : i + 1 + n - i ≡ 1 + prefix_len p (drop (i + 1) s)
+    size = let c = counted p s (i + 1) n e in omega (arith, c)
+
+    long : length Whole ≡ 1 + prefix_len p (drop (i + 1) s)
+    long = let w = run_within p s (i + 1) (i + 1 + n) (counted p s (i + 1) n e) (omega arith) in cut_length s i (i + 1 + n - i) (omega (arith, w)) ∙ size
+
+    all : Whole ≡ get_or s i 0 ∷ take (prefix_len p (drop (i + 1) s)) (drop (i + 1) s)
+    all = cut s i (prefix_len p (drop (i + 1) s)) (i + 1 + n - i) lt size
+
+  pub number_at : n ≡ prefix_len digit (take (length s - (i + 1)) (drop (i + 1) s)) → digit (get_or s i 0) ≡ true
+      → Some (tok sym.Number i (length Whole) (value_of Whole)) ≡ token_of i (get_or s i 0) (drop (i + 1) s)
+  number_at e d =
+      ap (λ m. Some (tok sym.Number i m (value_of Whole))) (long digit e)
+      ∙ ap (λ w. Some (tok sym.Number i (1 + prefix_len digit (drop (i + 1) s)) (value_of w))) (all digit e)
+      ∙ sym (token_digit i (get_or s i 0) (drop (i + 1) s) d)
+
+  pub word_at : n ≡ prefix_len part (take (length s - (i + 1)) (drop (i + 1) s)) → digit (get_or s i 0) ≡ false → part (get_or s i 0) ≡ true
+      → Some (tok (word Whole) i (length Whole) 0) ≡ token_of i (get_or s i 0) (drop (i + 1) s)
   word_at e d l =
-      let b : ℕ = get_or s i 0 in
-      let bs : List ℕ = drop (i + 1) s in
-      let k : ℕ = prefix_len part bs in
-      let n : end - i ≡ 1 + k = omega arith in
-      let long : length (Part s i (end - i)) ≡ 1 + k = cut_length s i (end - i) (omega arith) ∙ n in
-      ap (λ m. Some (tok (word (Part s i (end - i))) i m 0)) long
-      ∙ ap (λ w. Some (tok (word w) i (1 + k) 0)) (cut s i k (end - i) lt n)
-      ∙ sym (token_letter i b bs d (or_first (letter b) (digit b) l d))
+      ap (λ m. Some (tok (word Whole) i m 0)) (long part e)
+      ∙ ap (λ w. Some (tok (word w) i (1 + prefix_len part (drop (i + 1) s)) 0)) (all part e)
+      ∙ sym (token_letter i (get_or s i 0) (drop (i + 1) s) d (or_first (letter (get_or s i 0)) (digit (get_or s i 0)) l d))
 
 pub mark_at : (s : List ℕ) (i : ℕ) → digit (get_or s i 0) ≡ false → part (get_or s i 0) ≡ false
     → mark_of i (get_or s i 0) (drop (i + 1) s) (mark (get_or s i 0)) ≡ token_of i (get_or s i 0) (drop (i + 1) s)
@@ -107,7 +114,7 @@ same_at s i n e within both =
     ∙ ap (λ v. Some (cond v (tok sym.Same i 2 0) (tok sym.Assign i 1 0))) (sym both)
     ∙ ap (mark_of i b bs) (sym is)
 
-pub one_at : (s : List ℕ) (i n : ℕ) (x : Sym) → n ≡ 1 → i < length s → (eqb (get_or s i 0) 61 && eqb (get_or (drop (i + 1) s) 0 0) 61) ≡ false → Some x ≡ mark (get_or s i 0)
+one_at : (s : List ℕ) (i n : ℕ) (x : Sym) → n ≡ 1 → i < length s → (eqb (get_or s i 0) 61 && eqb (get_or (drop (i + 1) s) 0 0) 61) ≡ false → Some x ≡ mark (get_or s i 0)
     → Some (tok (sym_of_mark (Part s i n)) i (length (Part s i n)) 0) ≡ mark_of i (get_or s i 0) (drop (i + 1) s) (mark (get_or s i 0))
 one_at s i n x e within both is =
     let b : ℕ = get_or s i 0 in
@@ -119,3 +126,30 @@ one_at s i n x e within both is =
     ∙ ap (λ o. Some (tok (known o) i 1 0)) (sym is)
     ∙ ap (λ v. Some (cond v (tok sym.Same i 2 0) (tok x i 1 0))) (sym both)
     ∙ ap (mark_of i b bs) is
+
+pub marked_at : (s : List ℕ) (i n : ℕ) (o : Option Sym) → n ≡ 1 → i < length s → (eqb (get_or s i 0) 61 && eqb (get_or (drop (i + 1) s) 0 0) 61) ≡ false → o ≡ mark (get_or s i 0)
+    → option_map (λ _. tok (sym_of_mark (Part s i n)) i (length (Part s i n)) 0) o ≡ mark_of i (get_or s i 0) (drop (i + 1) s) (mark (get_or s i 0))
+marked_at s i n None e within both is = ap (mark_of i (get_or s i 0) (drop (i + 1) s)) is
+marked_at s i n (Some x) e within both is = one_at s i n x e within both is
+
+-- ---- n blanks stand from `at` on
+
+module _ (s : List ℕ) (at n : ℕ) (e : n ≡ prefix_len blank (take (length s - at) (drop at s))) where
+  on : rest s at ≡ rest s (at + n)
+  on = rest_start s at (at + n) (counted blank s at n e)
+
+  pub from_end : length s ≤ at + n → rest s at ≡ Ok []
+  from_end h = on ∙ rest_end s (at + n) h
+
+  module _ (lt : at + n < length s) where
+    stop : blank (get_or s (at + n) 0) ≡ false
+    stop = run_stops blank s at (at + n) (counted blank s at n e) lt
+
+    pub from_stray : (f : Fault) → None ≡ token_of (at + n) (get_or s (at + n) 0) (drop (at + n + 1) s) → f ≡ fault 2 (at + n) → rest s at ≡ Err f
+    from_stray f is g = on ∙ rest_stray s (at + n) lt stop is ∙ ap Err (sym g)
+
+    pub from_token : (t : Token) → Some (plain t (at + n)) ≡ token_of (at + n) (get_or s (at + n) 0) (drop (at + n + 1) s) → Lies s (at + n) (Some t) → Found s at (Ok (Some (t, at + n)))
+    from_token t is lies =
+        let long = plain_len t (at + n) in
+        let one = rest_token s (at + n) lt stop (plain t (at + n)) is (omega (arith, long, lies.0)) in
+        (on ∙ one ∙ ap (λ k. after (plain t (at + n) ∷ []) (rest s (at + n + k))) long, omega arith, lies.0, lies.1)

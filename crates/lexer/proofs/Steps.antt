@@ -1,7 +1,8 @@
 -- What the tokens of the text from a place on are, step by step. Assumes nothing.
 use Rattle.std.proofs.Common.{◌≡◌, ℕ, zero, suc, ◌+◌, ◌-◌, ◌<◌, ◌≤◌, Bool, true, false, cond, List, [], ◌∷◌, ◌++◌, length, get_or, take, drop, Some, None, Ok, Err, Option, Result, sym, refl, ap, ◌∙◌, append_assoc, add-zero, one-add, arith}
 use Rattle.std.specs.List.{prefix_len}
-use Rattle.std.proofs.lemmas.List.{at_drop_more, at_drop_all, drop-drop, get_or-drop, get_or_past, length-take-le, length-drop}
+use Rattle.std.proofs.lemmas.List.{at_drop_more, at_drop_all, drop-drop, get_or-drop, get_or_past, length-take-le, length-drop, take_all}
+use Rattle.std.proofs.lemmas.List.Sums.{prefix_len-le-length, prefix_len_stops}
 use Rattle.script.specs.declared.fault.Fault.{Fault}
 use Rattle.script.specs.declared.token.Tok.{Tok}
 use Rattle.script.specs.Faults.{fault}
@@ -85,3 +86,19 @@ module _ (s : List ℕ) (i : ℕ) (lt : i < length s) (e : blank (get_or s i 0) 
 
   pub rest_token : (t : Tok) → Some t ≡ token_of i (get_or s i 0) (drop (i + 1) s) → 1 ≤ t.len → rest s i ≡ after (t ∷ []) (rest s (i + t.len))
   rest_token t is some = begins (Some t) is ∙ ap (after (t ∷ [])) (past s i t.len some)
+
+-- ---- the run of bytes that pass a test
+
+pub counted : (p : ℕ → Bool) (s : List ℕ) (at n : ℕ) → n ≡ prefix_len p (take (length s - at) (drop at s)) → at + n ≡ at + prefix_len p (drop at s)
+counted p s at n e = let l = length-drop at s in ap (λ k. at + k) (e ∙ ap (prefix_len p) (take_all (length s - at) (drop at s) (omega (arith, l))))
+
+module _ (p : ℕ → Bool) (s : List ℕ) (at start : ℕ) (e : start ≡ at + prefix_len p (drop at s)) where
+  pub run_within : at ≤ length s → start ≤ length s
+  run_within h = let k = prefix_len-le-length p (drop at s) in let l = length-drop at s in omega (arith, k, l, e)
+
+  pub run_stops : start < length s → p (get_or s start 0) ≡ false
+  run_stops h =
+      let k : ℕ = prefix_len p (drop at s) in
+      let l = length-drop at s in
+      let lt : k < length (drop at s) = omega (arith, l, e, h) in
+      ap p (ap (λ j. get_or s j 0) e ∙ sym (get_or-drop at s k 0)) ∙ prefix_len_stops p (drop at s) 0 lt

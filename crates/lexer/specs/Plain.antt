@@ -1,19 +1,17 @@
 -- A token that borrows its bytes, by its plain record, and what reading on from a place gives. Assumes nothing.
 use Rattle.std.specs.Prelude.{◌≡◌, ℕ, ◌+◌, ◌≤◌, Bool, cond, List, [], ◌∷◌, length, drop, Some, None, Ok, Err, Option, Result, ◌==◌, slice_index}
+use Rattle.std.specs.List.{prefix_len}
 use Rattle.script.specs.declared.fault.Fault.{Fault}
 use Rattle.script.specs.declared.token.Sym.{Sym}
 use Rattle.script.specs.declared.token.Sym.TheVariants as sym
 use Rattle.script.specs.declared.token.Tok.{Tok}
-use Rattle.script.specs.Tokens.{blank, digit, part, mark, word, value_of, tok, after, lex}
-use Rattle.lexer.specs.declared.scan.Class.{Class}
-use Rattle.lexer.specs.declared.scan.Class.TheVariants.{Blank, Digit, Part}
+use Rattle.script.specs.Tokens.{mark, word, value_of, tok, after, lex}
 use Rattle.lexer.specs.declared.scan.Token.{Token}
 use Rattle.lexer.specs.declared.scan.Token.TheVariants.{Word, Number, Mark}
 
-abbrev pub in_class : Class → ℕ → Bool
-in_class Blank b = blank b
-in_class Digit b = digit b
-in_class Part b = part b
+-- n is how many of the bytes, from the first on, pass the test that the calls answer
+abbrev pub Counts : (ℕ → Bool → Type 0) → List ℕ → ℕ → Type 0
+Counts answers bs n = (p : ℕ → Bool) → ((b : ℕ) (r : Bool) → answers b r → r ≡ p b) → n ≡ prefix_len p bs
 
 -- the bytes that a token has in the text
 abbrev pub bytes : Token → List ℕ

@@ -1,19 +1,11 @@
 // The tokens of a text one by one, each with the bytes that it has in the text.
-ghost use Rattle.std.specs.Prelude.{◌≡◌, ◌+◌, ◌<◌, ◌≤◌, false, ◌&&◌, length, drop, ◌==◌, nat_lt, slice_index};
-ghost use Rattle.std.specs.List.{prefix_len};
-ghost use Rattle.script.specs.Tokens.{mark, mark_of, token_of};
-ghost use Rattle.lexer.specs.Plain.{in_class, bytes, plain_if, Lies, Found, Reads};
+ghost use Rattle.std.specs.Prelude.{◌≡◌, ◌+◌, ◌<◌, ◌≤◌, ◌&&◌, length, drop, ◌==◌, nat_lt, slice_index};
+ghost use Rattle.script.specs.Tokens.{blank, digit, part, mark, mark_of, token_of};
+ghost use Rattle.lexer.specs.Plain.{bytes, plain_if, Counts, Lies, Found, Reads};
 
 use script::fault::Fault;
+use script::refusal::Refusal;
 use script::token::Sym;
-
-// The bytes that run together: blanks, the digits of a number, and the bytes that a name goes on with.
-#[derive(Clone, Copy)]
-pub enum Class {
-    Blank,
-    Digit,
-    Part,
-}
 
 // A token keeps the bytes of the text itself, so that its name or its digits are never copied.
 #[derive(Clone, Copy)]
@@ -31,32 +23,36 @@ pub struct Lexer<'a> {
     ghost ok: { at ≤ length text.now },
 }
 
-fn is_in(class: Class, b: u8) -> bool
-    ensures { result ≡ in_class class b }
+// Not `is_ascii_whitespace`, which takes a form feed too.
+fn is_blank(b: u8) -> bool
+    ensures { result ≡ blank b }
 {
-    match (class, b as char) {
-        (Class::Blank, ' ' | '\t' | '\r' | '\n') => true,
-        (Class::Digit | Class::Part, '0'..='9') => true,
-        (Class::Part, 'a'..='z' | 'A'..='Z' | '_') => true,
-        _ => false,
-    }
+    matches!(b, b' ' | b'\t' | b'\r' | b'\n')
 }
 
-// Where the longest run of the class that begins at `from` ends.
-fn run_end(text: &[u8], from: usize, class: Class) -> usize
-    requires { from ≤ length text.now }
-    ensures value { result ≡ from + prefix_len (in_class class) (drop from text.now) }
-    ensures within { result ≤ length text.now }
-    ensures stops { result < length text.now → in_class class (slice_index text.now result) ≡ false }
+fn is_digit(b: u8) -> bool
+    ensures { result ≡ digit b }
 {
-    let mut i = from;
-    while i < text.len() && is_in(class, text[i]) {
-        i += 1;
-    }
-    i
+    b.is_ascii_digit()
 }
 
-// What a mark of one byte is, if the byte is one.
+// Whether a name goes on with the byte.
+fn is_part(b: u8) -> bool
+    ensures { result ≡ part b }
+{
+    b.is_ascii_alphanumeric() || b == b'_'
+}
+
+// How many of the bytes, from the first on, pass the test.
+fn run_len<F: Fn(u8) -> bool>(bytes: &[u8], test: F) -> usize
+    requires { F.IsAlwaysCallable test }
+    ensures value { Counts (F.post test) bytes.now result }
+    ensures within { result ≤ length bytes.now }
+{
+    bytes.iter().take_while(|b| test(**b)).count()
+}
+
+// What a mark of one byte is, if the byte is one. The cases are characters, as the marks stand in a text.
 pub(crate) fn mark_sym(b: u8) -> Option<Sym>
     ensures { result ≡ mark b }
 {
@@ -77,15 +73,15 @@ pub(crate) fn mark_sym(b: u8) -> Option<Sym>
     }
 }
 
+// The functions below take the text and a place in it, and not the part from there on: the plain record that
+// their contracts speak of has the place.
+
 // Whether the two equals signs of `==` begin at `start`.
 fn is_same(text: &[u8], start: usize) -> bool
     requires { start < length text.now }
     ensures { result ≡ (nat_lt (start + 1) (length text.now) && (slice_index text.now start == 61 && slice_index text.now (start + 1) == 61)) }
 {
-    if start + 1 >= text.len() {
-        return false;
-    }
-    text[start] == b'=' && text[start + 1] == b'='
+    text[start..].starts_with(b"==")
 }
 
 // The mark that begins at `start`: the longest that does.
@@ -97,10 +93,7 @@ fn mark_at<'a>(text: &'a [u8], start: usize) -> Option<Token<'a>>
     if is_same(text, start) {
         return Some(Token::Mark(&text[start..start + 2]));
     }
-    match mark_sym(text[start]) {
-        Some(_) => Some(Token::Mark(&text[start..start + 1])),
-        None => None,
-    }
+    mark_sym(text[start]).map(|_| Token::Mark(&text[start..start + 1]))
 }
 
 // The token that begins at `start`: the longest that does.
@@ -110,11 +103,11 @@ fn token_at<'a>(text: &'a [u8], start: usize) -> Option<Token<'a>>
     ensures lies { Lies text.now start result }
 {
     let first = text[start];
-    if is_in(Class::Digit, first) {
-        let end = run_end(text, start + 1, Class::Digit);
+    if is_digit(first) {
+        let end = start + 1 + run_len(&text[start + 1..], is_digit);
         Some(Token::Number(&text[start..end]))
-    } else if is_in(Class::Part, first) {
-        let end = run_end(text, start + 1, Class::Part);
+    } else if is_part(first) {
+        let end = start + 1 + run_len(&text[start + 1..], is_part);
         Some(Token::Word(&text[start..end]))
     } else {
         mark_at(text, start)
@@ -137,13 +130,13 @@ fn token_from<'a>(text: &'a [u8], at: usize) -> Result<Option<(Token<'a>, usize)
     requires { at ≤ length text.now }
     ensures { Found text.now at result }
 {
-    let start = run_end(text, at, Class::Blank);
+    let start = at + run_len(&text[at..], is_blank);
     if start >= text.len() {
         return Ok(None);
     }
     match token_at(text, start) {
         Some(token) => Ok(Some((token, start))),
-        None => Err(Fault::new(2, start)),
+        None => Err(Refusal::UnknownByte.at(start)),
     }
 }
 
@@ -156,7 +149,8 @@ impl<'a> Lexer<'a> {
         Lexer { text, at: 0 }
     }
 
-    // The next token and its place; nothing where only blanks are left.
+    // The next token and its place; nothing where only blanks are left. This is no `Iterator`:
+    // what it promises speaks of the place where it leaves off, which it keeps at a byte that no token has.
     pub fn next(&mut self) -> Result<Option<(Token<'a>, usize)>, Fault>
         ensures read { Reads self.old.text.now self.old.at result self.new.at }
         ensures text { self.new.text.now ≡ self.old.text.now }

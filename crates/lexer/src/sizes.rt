@@ -5,6 +5,7 @@ ghost use Rattle.script.specs.Faults.{answer};
 ghost use Rattle.script.specs.Sizes.{past_bytes, first_where, too_long, first_place, past_tokens};
 
 use script::fault::Fault;
+use script::refusal::Refusal;
 use script::token::{Sym, Tok};
 
 const MAX_BYTES: usize = 8192;
@@ -15,16 +16,6 @@ const MAX_NUMBER: u32 = 2147483647;
 
 const MAX_TOKENS: usize = 2048;
 
-// What the question of a number answers: nothing to refuse, or the fault at the place that it refuses.
-pub(crate) fn answered(number: u8, place: Option<usize>) -> Result<(), Fault>
-    ensures { result ≡ answer number place }
-{
-    match place {
-        Some(place) => Err(Fault::new(number, place)),
-        None => Ok(()),
-    }
-}
-
 // Question 1: at most `MAX_BYTES` bytes.
 pub(crate) fn size(text: &[u8]) -> Result<(), Fault>
     ensures { result ≡ answer 1 (past_bytes text.now) }
@@ -32,7 +23,7 @@ pub(crate) fn size(text: &[u8]) -> Result<(), Fault>
     if text.len() <= MAX_BYTES {
         Ok(())
     } else {
-        Err(Fault::new(1, MAX_BYTES))
+        Err(Refusal::TextTooLong.at(MAX_BYTES))
     }
 }
 
@@ -51,12 +42,7 @@ fn is_too_long(t: Tok) -> bool
 fn first_too_long(toks: &[Tok]) -> Option<usize>
     ensures { result ≡ first_where too_long toks.now }
 {
-    for t in toks {
-        if is_too_long(*t) {
-            return Some(t.place);
-        }
-    }
-    None
+    toks.iter().find(|t| is_too_long(**t)).map(|t| t.place)
 }
 
 // Question 3: names of at most `MAX_NAME` bytes, and numbers of at most `MAX_NUMBER`. The reserved
@@ -64,31 +50,26 @@ fn first_too_long(toks: &[Tok]) -> Option<usize>
 pub(crate) fn lengths(toks: &[Tok]) -> Result<(), Fault>
     ensures { result ≡ answer 3 (first_where too_long toks.now) }
 {
-    answered(3, first_too_long(toks))
+    Refusal::TokenTooLarge.answer(first_too_long(toks))
 }
 
 // The place of the token that has `n` before it, if there are so many.
 fn place_past(toks: &[Tok], n: usize) -> Option<usize>
     ensures { result ≡ first_place (drop n toks.now) }
 {
-    if n < toks.len() {
-        Some(toks[n].place)
-    } else {
-        None
-    }
+    toks.get(n).map(|t| t.place)
 }
 
 // Question 4: at most `MAX_TOKENS` tokens.
 pub fn count(toks: &[Tok]) -> Result<(), Fault>
     ensures { result ≡ answer 4 (past_tokens toks.now) }
 {
-    answered(4, place_past(toks, MAX_TOKENS))
+    Refusal::TooManyTokens.answer(place_past(toks, MAX_TOKENS))
 }
 
 #[cfg(test)]
 mod tests {
     use super::*;
-    use std::test::Fail;
 
     #[test]
     fn the_longest_name_is_taken(rt: HostRuntime) {
@@ -102,7 +83,7 @@ mod tests {
     }
 
     #[test]
-    fn the_first_too_long_is_refused(rt: HostRuntime) -> Result<(), Fail> {
+    fn the_first_too_long_is_refused(rt: HostRuntime) {
         let name = Tok {
             sym: Sym::Name,
             place: 3,
@@ -115,12 +96,7 @@ mod tests {
             len: 10,
             value: 2147483648,
         };
-        match lengths(&[name, number]) {
-            Ok(_) => Err(Fail::new("taken")),
-            Err(f) => {
-                assert!(rt; f.number == 3 && f.place == 40);
-                Ok(())
-            },
-        }
+        // by the number, which is what is promised
+        assert_eq!(rt; lengths(&[name, number]), Err(Fault::new(3, 40)));
     }
 }

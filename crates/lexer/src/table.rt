@@ -1,50 +1,34 @@
 // The table of a text's tokens: their plain records, in the order of the text.
-ghost use Rattle.std.specs.Prelude.{◌≡◌, ◌≤◌, ◌⊎◌, length, take, IfOk, IfErr, Ok, Err, MatchResult};
-ghost use Rattle.std.specs.Str.{bytes_eq};
+ghost use Rattle.std.specs.Prelude.{◌≡◌, ◌+◌, ◌-◌, ◌*◌, ◌≤◌, ◌⊎◌, length, min, IfOk, IfErr, Ok, Err, MatchResult};
 ghost use Rattle.script.specs.Tokens.{tokens, value_of, word};
 ghost use Rattle.lexer.specs.Places.{Inside, Rising, Full};
 ghost use Rattle.lexer.specs.Plain.{plain, sym_of_mark};
 
 use crate::scan::{Lexer, Token, mark_sym};
+use list::fixed::Fixed;
 use script::fault::Fault;
+use script::refusal::Refusal;
 use script::token::{Sym, Tok};
 
 // One more than the greatest number that a script may have: what a token says of any greater one.
-const TOO_LARGE: u64 = 2147483648;
-
-// A function of its own, so that each word asks the same short question.
-fn is_word(text: &[u8], fixed: &[u8]) -> bool
-    ensures { result ≡ bytes_eq text.now fixed.now }
-{
-    text == fixed
-}
+const TOO_LARGE: u32 = 2147483648;
 
 // The reserved words have symbols of their own, and every other word is a name.
 fn word_sym(text: &[u8]) -> Sym
     ensures { result ≡ word text.now }
 {
-    if is_word(text, b"cell") {
-        Sym::Cell
-    } else if is_word(text, b"var") {
-        Sym::Var
-    } else if is_word(text, b"fresh") {
-        Sym::Fresh
-    } else if is_word(text, b"main") {
-        Sym::Main
-    } else if is_word(text, b"in") {
-        Sym::In
-    } else if is_word(text, b"if") {
-        Sym::If
-    } else if is_word(text, b"else") {
-        Sym::Else
-    } else if is_word(text, b"repeat") {
-        Sym::Repeat
-    } else if is_word(text, b"atomic") {
-        Sym::Atomic
-    } else if is_word(text, b"together") {
-        Sym::Together
-    } else {
-        Sym::Name
+    match text {
+        b"cell" => Sym::Cell,
+        b"var" => Sym::Var,
+        b"fresh" => Sym::Fresh,
+        b"main" => Sym::Main,
+        b"in" => Sym::In,
+        b"if" => Sym::If,
+        b"else" => Sym::Else,
+        b"repeat" => Sym::Repeat,
+        b"atomic" => Sym::Atomic,
+        b"together" => Sym::Together,
+        _ => Sym::Name,
     }
 }
 
@@ -52,27 +36,26 @@ fn word_sym(text: &[u8]) -> Sym
 fn sym_of_mark(text: &[u8]) -> Sym
     ensures { result ≡ sym_of_mark text.now }
 {
-    if text.len() != 1 {
-        return Sym::Same;
-    }
-    match mark_sym(text[0]) {
-        Some(sym) => sym,
-        None => Sym::Same,
+    match text {
+        [b] => mark_sym(*b).unwrap_or(Sym::Same),
+        _ => Sym::Same,
     }
 }
 
-// The number that the digits write. It stops growing at `TOO_LARGE`, so that no number wraps.
+// What a token of the digits read so far says, once the digit `d` is read too. No sum wraps, since it
+// stops growing at `TOO_LARGE`.
+fn one_more(n: u32, d: u8) -> u32
+    ensures { result ≡ min (n * 10 + (d - 48)) 2147483648 }
+{
+    let d = u32::from(d.saturating_sub(b'0'));
+    n.saturating_mul(10).saturating_add(d).min(TOO_LARGE)
+}
+
+// The number that the digits write.
 fn value(digits: &[u8]) -> u32
     ensures { result ≡ value_of digits.now }
 {
-    let mut n: u64 = 0;
-    for d in digits {
-        n = n * 10 + u64::from(d.saturating_sub(b'0'));
-        if n > TOO_LARGE {
-            n = TOO_LARGE;
-        }
-    }
-    n as u32
+    digits.iter().fold(0, |n, d| one_more(n, *d))
 }
 
 // The plain record of a token that begins at `place`.
@@ -101,25 +84,23 @@ fn record(token: Token<'_>, place: usize) -> Tok
     }
 }
 
-// Writes the records of the text's tokens to `out`, and answers how many there are. A table as long
-// as the text is long enough, since each token has a byte.
-pub(crate) fn read_tokens(text: &[u8], out: &mut [Tok]) -> Result<usize, Fault>
-    ensures table { MatchResult result (λ n. tokens text.now ≡ Ok (take n out.new)) (λ f. length text.now ≤ length out.old → tokens text.now ≡ Err f) }
-    ensures full { IfErr result (λ f. (tokens text.now ≡ Err f) ⊎ Full text.now out.new f) }
-    ensures count { IfOk result (λ n. (n ≤ length text.now) × (n ≤ length out.old)) }
-    ensures inside { IfOk result (λ n. Inside (length text.now) (take n out.new)) }
-    ensures rising { IfOk result (λ n. Rising (take n out.new)) }
+// The records of the text's tokens, where there is room for them: a table as long as the text is long
+// enough, since each token has a byte.
+pub(crate) fn read_tokens<const N: usize>(text: &[u8]) -> Result<Fixed<Tok, N>, Fault>
+    ensures table { MatchResult result (λ toks. tokens text.now ≡ Ok toks.items) (λ f. length text.now ≤ N → tokens text.now ≡ Err f) }
+    ensures full { IfErr result (λ f. (tokens text.now ≡ Err f) ⊎ Full N text.now f) }
+    ensures count { IfOk result (λ toks. (length toks.items ≤ length text.now) × (length toks.items ≤ N)) }
+    ensures inside { IfOk result (λ toks. Inside (length text.now) toks.items) }
+    ensures rising { IfOk result (λ toks. Rising toks.items) }
 {
     let mut lexer = Lexer::new(text);
-    let mut n = 0;
-    while let Some((t, place)) = lexer.next()? {
-        if n >= out.len() {
-            return Err(Fault::new(4, place));
+    let mut toks = Fixed::new();
+    while let Some((token, place)) = lexer.next()? {
+        if !toks.push(record(token, place)) {
+            return Err(Refusal::TooManyTokens.at(place));
         }
-        out[n] = record(t, place);
-        n += 1;
     }
-    Ok(n)
+    Ok(toks)
 }
 
 #[cfg(test)]
@@ -127,64 +108,36 @@ mod tests {
     use super::*;
     use std::test::Fail;
 
-    const NONE: Tok = Tok {
-        sym: Sym::Name,
-        place: 0,
-        len: 0,
-        value: 0,
-    };
-
     #[test]
     fn reads_words_numbers_and_marks(rt: HostRuntime) -> Result<(), Fail> {
-        let mut out = [NONE; 16];
-        match read_tokens(b"cell a_1 == 12;", &mut out) {
-            Ok(n) => {
-                assert_eq!(rt; n, 5);
-                assert!(rt; matches!(out[0].sym, Sym::Cell) && matches!(out[1].sym, Sym::Name));
-                assert!(rt;
-                    matches!(out[2].sym, Sym::Same) && out[2].place == 9 && out[2].len == 2
-                );
-                assert!(rt; matches!(out[3].sym, Sym::Number) && out[3].value == 12);
-                assert!(rt; matches!(out[4].sym, Sym::Semicolon) && out[4].place == 14);
-                Ok(())
-            }
-            Err(_) => Err(Fail::new("refused")),
-        }
+        let table = read_tokens::<16>(b"cell a_1 == 12;")?;
+        let toks = table.as_slice();
+        assert_eq!(rt; toks.len(), 5);
+        assert!(rt; toks[0].sym == Sym::Cell && toks[1].sym == Sym::Name);
+        assert!(rt; toks[2].sym == Sym::Same && toks[2].place == 9 && toks[2].len == 2);
+        assert!(rt; toks[3].sym == Sym::Number && toks[3].value == 12);
+        assert!(rt; toks[4].sym == Sym::Semicolon && toks[4].place == 14);
+        Ok(())
     }
 
     #[test]
-    fn says_where_a_byte_is_no_part_of_a_token(rt: HostRuntime) -> Result<(), Fail> {
-        let mut out = [NONE; 16];
-        match read_tokens(b"in 7 ?", &mut out) {
-            Ok(_) => Err(Fail::new("taken")),
-            Err(f) => {
-                assert!(rt; f.number == 2 && f.place == 5);
-                Ok(())
-            },
-        }
+    fn says_where_a_byte_is_no_part_of_a_token(rt: HostRuntime) {
+        // by the number, which is what is promised
+        assert_eq!(rt; read_tokens::<16>(b"in 7 ?").err(), Some(Fault::new(2, 5)));
     }
 
     #[test]
     fn large_numbers_are_one(rt: HostRuntime) -> Result<(), Fail> {
-        let mut out = [NONE; 16];
-        match read_tokens(b"99999999999999", &mut out) {
-            Ok(_) => {
-                assert!(rt; out[0].value == 2147483648 && out[0].len == 14);
-                Ok(())
-            },
-            Err(_) => Err(Fail::new("refused")),
-        }
+        let table = read_tokens::<16>(b"99999999999999")?;
+        let toks = table.as_slice();
+        assert_eq!(rt; toks.len(), 1);
+        assert!(rt; toks[0].value == 2147483648 && toks[0].len == 14);
+        Ok(())
     }
 
     #[test]
-    fn a_full_table_says_where(rt: HostRuntime) -> Result<(), Fail> {
-        let mut out = [NONE; 2];
-        match read_tokens(b"a b  c", &mut out) {
-            Ok(_) => Err(Fail::new("taken")),
-            Err(f) => {
-                assert!(rt; f.number == 4 && f.place == 5);
-                Ok(())
-            },
-        }
+    fn a_full_table_says_where(rt: HostRuntime) {
+        // by the number, which is what is promised
+        assert_eq!(rt; read_tokens::<2>(b"a b  c").err(), Some(Fault::new(4, 5)));
     }
 }

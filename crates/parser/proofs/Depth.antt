@@ -1,6 +1,6 @@
 -- The steps of the loop that counts what is open. Assumes nothing.
 use Rattle.std.proofs.Common.{◌≡◌, ℕ, ◌+◌, ◌-◌, ◌<◌, ◌≤◌, Bool, true, false, cond, eqb, leb, List, ◌∷◌, length, get_or, drop, Some, None, Option, sym, refl, ap, ◌∙◌, subst, arith}
-use Rattle.std.proofs.lemmas.List.{at_drop_more, at_drop_all}
+use Rattle.std.proofs.lemmas.List.{at_drop_more}
 use Rattle.std.proofs.lemmas.Bool.{leb-false}
 use Rattle.script.specs.declared.token.Sym.{Sym}
 use Rattle.script.specs.declared.token.Tok.{Tok}
@@ -38,6 +38,3 @@ module _ {toks : List Tok} {n i : ℕ} (so : Counted toks n i) where
 
     pub counted_off : open_after t.sym n ≡ None → nesting toks ≡ Some t.place
     counted_off e = sym to ∙ ap (λ o. or_stop t.place o (λ m. nesting_from m (drop (i + 1) toks))) e
-
-  pub counted_all : length toks ≤ i → nesting toks ≡ None
-  counted_all h = sym so.same ∙ at_drop_all (nesting_from n) toks i h

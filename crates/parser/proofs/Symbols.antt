@@ -1,13 +1,9 @@
 -- Two symbols of one number are the same. Assumes nothing.
-use Rattle.std.proofs.Common.{◌≡◌, ℕ, Bool, true, false, cond, eqb, sym as sym', refl, ap, ◌∙◌}
+use Rattle.std.proofs.Common.{◌≡◌, ℕ, true, cond, eqb, sym as sym', refl, ap, ◌∙◌}
 use Rattle.std.proofs.lemmas.Bool.{eqb-true}
 use Rattle.script.specs.declared.token.Sym.{Sym}
 use Rattle.script.specs.declared.token.Sym.TheVariants as sym
-use Rattle.script.specs.declared.row.Role.TheVariants as role
-use Rattle.parser.specs.declared.machine.Ends.TheVariants as ends
-use Rattle.parser.specs.declared.machine.Want.TheVariants as want
-use Rattle.parser.specs.declared.machine.Move.TheVariants.{Stay}
-use Rattle.parser.specs.Machine.{code, is, over, stmt, source, operand}
+use Rattle.parser.specs.Machine.{code, is}
 
 abbrev uncode : ℕ → Sym
 uncode n =
@@ -66,16 +62,3 @@ uncode_code sym.Number = refl
 
 pub same : (s t : Sym) → is s t ≡ true → s ≡ t
 same s t e = sym' (uncode_code s) ∙ ap uncode (eqb-true (code s) (code t) e) ∙ uncode_code t
-
-pub differs : (s t : Sym) → (s ≡ t → ⊥) → is s t ≡ false
-differs s t n = by (is s t) refl
-  where
-    by : (b : Bool) → is s t ≡ b → is s t ≡ false
-    by true e = absurd (n (same s t e))
-    by false e = e
-
-pub over_stmt : (s : Sym) → (s ≡ sym.Else → ⊥) → over s ≡ stmt s
-over_stmt s n = ap (λ b. cond b (Stay role.ElseWord want.ElseOpen) (stmt s)) (differs s sym.Else n)
-
-pub source_operand : (s : Sym) → (s ≡ sym.In → ⊥) → source s ≡ operand ends.Semi false s
-source_operand s n = ap (λ b. cond b (Stay role.InWord want.Channel) (operand ends.Semi false s)) (differs s sym.In n)

@@ -1,5 +1,5 @@
 -- The reader as a machine: what it wants next, and the stack of what is open. Assumes nothing.
-use Rattle.std.specs.Prelude.{◌≡◌, ℕ, zero, suc, ◌-◌, ◌<◌, Bool, true, false, cond, ◌⊎◌, List, [], ◌∷◌, Some, None, Ok, Err, Option, Result, ◌==◌, slice_index_or}
+use Rattle.std.specs.Prelude.{◌≡◌, ℕ, ◌-◌, ◌<◌, Bool, true, false, cond, ◌⊎◌, List, [], ◌∷◌, length, reverse, Some, None, Ok, Err, Option, Result, ◌==◌}
 use Rattle.script.specs.declared.fault.Fault.{Fault}
 use Rattle.script.specs.declared.row.Role.{Role}
 use Rattle.script.specs.declared.row.Role.TheVariants as role
@@ -262,13 +262,13 @@ start = at want.Decl []
 
 -- ---- the machine of the code
 
--- the stack in an array, with its top at n - 1
-abbrev pub stack_of : List Frame → ℕ → List Frame
-stack_of fs zero = []
-stack_of fs (suc n) = slice_index_or fs n frame.Main ∷ stack_of fs n
+-- how many are open
+abbrev pub depth_of : Machine → ℕ
+depth_of m = length m.stack.items
 
+-- the top of the stack is its last entry
 abbrev pub view_of : Machine → State
-view_of m = at m.want (stack_of m.stack m.depth)
+view_of m = at m.want (reverse m.stack.items)
 
 abbrev pub rule_of : Machine → Tok → Move
 rule_of m t = rule m.want t.sym
@@ -277,15 +277,15 @@ rule_of m t = rule m.want t.sym
 pub record Goes (m : Machine) (t : Tok) (b : Bool) (r : Row) (m' : Machine) : Type 0 where
   pub state : moved (rule_of m t) (view_of m).stack ≡ Some (view_of m')
   pub row : r ≡ marked (given (rule_of m t) (view_of m).stack b) t
-  pub depth : open_after t.sym m.depth ≡ Some m'.depth
+  pub depth : open_after t.sym (depth_of m) ≡ Some (depth_of m')
 
 -- a token stops it: it is refused, or too deep
 abbrev pub Stops : Machine → Tok → Fault → Type 0
-Stops m t f = ((moved (rule_of m t) (view_of m).stack ≡ None) × (f ≡ fault 6 t.place)) ⊎ (open_after t.sym m.depth ≡ None)
+Stops m t f = ((moved (rule_of m t) (view_of m).stack ≡ None) × (f ≡ fault 6 t.place)) ⊎ (open_after t.sym (depth_of m) ≡ None)
 
 -- the same of a closing mark, by what is open
 pub record Pops (m : Machine) (mark : Mark) (t : Tok) (b : Bool) (r : Row) (m' : Machine) : Type 0 where
   pub state : popped mark (view_of m).stack ≡ Some (view_of m')
   pub row : r ≡ marked (top_closing (view_of m).stack b) t
-  pub before : 0 < m.depth
-  pub depth : m.depth - 1 ≡ m'.depth
+  pub before : 0 < depth_of m
+  pub depth : depth_of m - 1 ≡ depth_of m'

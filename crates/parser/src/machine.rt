@@ -1,19 +1,22 @@
 // The state of the reader: what it wants next, and the braces and parentheses that are open.
+use list::fixed::Fixed;
 use script::row::Role;
 
 // How many braces and parentheses can be open at once.
 pub const DEEPEST: usize = 16;
 
 // What ends the expression that is being read.
-#[derive(Clone, Copy)]
+#[derive(Clone, Copy, PartialEq, Eq)]
 pub enum Ends {
     Semi,
     Brace,
     Paren,
 }
 
-// What is wanted next. In an expression the flag says that its comparison is already read.
-#[derive(Clone, Copy)]
+// What is wanted next. In an expression the flag says that its comparison is already read. It and what
+// ends the expression are no struct of their own: `Want::Operand(ends, true)` would then be
+// `Want::Operand(Within { compared: true, ..within })`.
+#[derive(Clone, Copy, PartialEq, Eq)]
 pub enum Want {
     Decl,
     CellName,
@@ -45,8 +48,9 @@ pub enum Want {
 }
 
 // What is open: a block by what it belongs to, or a parenthesis with the expression around it.
-#[derive(Clone, Copy)]
+#[derive(Clone, Copy, Default)]
 pub enum Frame {
+    #[default]
     Main,
     Then,
     Other,
@@ -73,6 +77,5 @@ pub enum Move {
 #[derive(Clone, Copy)]
 pub struct Machine {
     pub want: Want,
-    pub stack: [Frame; DEEPEST],
-    pub depth: usize,
+    pub stack: Fixed<Frame, DEEPEST>,
 }

@@ -1,26 +1,20 @@
 // The depth to which braces and parentheses stand in each other.
-ghost use Rattle.std.specs.Prelude.{◌≡◌, ◌≤◌};
+ghost use Rattle.std.specs.Prelude.{◌≡◌};
 ghost use Rattle.script.specs.Faults.{answer};
 ghost use Rattle.script.specs.Nesting.{nesting, open_after};
 
 use crate::machine::DEEPEST;
 use script::fault::Fault;
+use script::refusal::Refusal;
 use script::token::{Sym, Tok};
 
 // How many are open after the token, where `open` were before it.
 fn open_after(sym: Sym, open: usize) -> Option<usize>
-    requires { «open» ≤ 16 }
     ensures { result ≡ open_after sym «open» }
 {
     match sym {
-        Sym::BraceOpen | Sym::ParenOpen => {
-            if open >= DEEPEST {
-                None
-            } else {
-                Some(open + 1)
-            }
-        }
-        Sym::BraceClose | Sym::ParenClose => { if open == 0 { None } else { Some(open - 1) } }
+        Sym::BraceOpen | Sym::ParenOpen => open.checked_add(1).filter(|n| *n <= DEEPEST),
+        Sym::BraceClose | Sym::ParenClose => open.checked_sub(1),
         _ => Some(open),
     }
 }
@@ -32,10 +26,7 @@ pub(crate) fn nesting(toks: &[Tok]) -> Result<(), Fault>
 {
     let mut open = 0;
     for t in toks {
-        let Some(n) = open_after(t.sym, open) else {
-            return Err(Fault::new(5, t.place));
-        };
-        open = n;
+        open = open_after(t.sym, open).ok_or(Refusal::TooDeep.at(t.place))?;
     }
     Ok(())
 }

@@ -1,6 +1,6 @@
 // What each token does to the reader's state, by what is wanted: the grammar as a table.
 ghost use Rattle.std.specs.Prelude.{◌≡◌};
-ghost use Rattle.parser.specs.Machine.{rule, decl, block, stmt, over, source, operand, more, finish, closed, closing, is_end};
+ghost use Rattle.parser.specs.Machine.{rule, decl, block, stmt, over, source, operand, more, finish, closed, closing};
 
 use crate::machine::{Ends, Frame, Mark, Move, Want};
 use script::row::Role;
@@ -176,11 +176,4 @@ pub(crate) fn closing_of(frame: Frame, other: bool) -> Role
         Frame::Region => Role::RegionClose,
         Frame::Paren(_, _) => Role::ParenClose,
     }
-}
-
-// Whether the script is whole.
-pub(crate) fn is_end(want: Want) -> bool
-    ensures { result ≡ is_end want }
-{
-    matches!(want, Want::End)
 }
