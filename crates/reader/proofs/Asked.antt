@@ -26,15 +26,15 @@ use Rattle.reader.specs.declared.count.Total.{Total}
 use Rattle.reader.specs.Count.{count, acc, none, total}
 use Rattle.reader.proofs.Nests.{main_depth}
 use Rattle.reader.proofs.Counts.{counts_script}
-use Rattle.reader.specs.Stages.{Scanned, Parsed, Named, Counted, Unbounded, Bounded}
+use Rattle.reader.specs.Stages.{Scanned, Parsed, Named, Unbounded, Bounded}
 
 -- ---- answers
 
 none_some : {X : Type 0} (o : Option ℕ) (p : ℕ) → o ≡ None → o ≡ Some p → X
-none_some o p e g = absurd (let z : ◌≡◌ {A = ℕ} 0 1 = cc in omega arith)
+none_some o p e g = cc
 
 ok_err : {X A : Type 0} (a : A) (f : Fault) (r : Result A Fault) → r ≡ Ok a → r ≡ Err f → X
-ok_err a f r e g = absurd (let z : ◌≡◌ {A = ℕ} 0 1 = cc in omega arith)
+ok_err a f r e g = cc
 
 ok_same : {A : Type 0} (a b : A) (r : Result A Fault) → r ≡ Ok a → r ≡ Ok b → a ≡ b
 ok_same a b r e g = cc
@@ -88,11 +88,11 @@ passes_more text q pass here q' p lt no' = ⊎_elim
 
 -- tokens are refused by question 2 alone
 lex_fault : (k p : ℕ) (bs : List ℕ) (f : Fault) → lex k p bs ≡ Err f → f ≡ fault 2 f.place
-lex_fault k p [] f e = absurd (let z : ◌≡◌ {A = ℕ} 0 1 = cc in omega arith)
+lex_fault k p [] f e = cc
 lex_fault zero p (b ∷ bs) f e = by (blank b) (token_of p b bs) (λ k. lex_fault k (p + 1) bs) e
   where
     past : (t : Tok) (r : Result (List Tok) Fault) → after (t ∷ []) r ≡ Err f → r ≡ Err f
-    past t (Ok ts) h = absurd (let z : ◌≡◌ {A = ℕ} 0 1 = cc in omega arith)
+    past t (Ok ts) h = cc
     past t (Err g) h = h
 
     by : (c : Bool) (o : Option Tok) → ((k : ℕ) (g : Fault) → lex k (p + 1) bs ≡ Err g → g ≡ fault 2 g.place) → cond c (lex 0 (p + 1) bs) (begin p o (λ n. lex n (p + 1) bs)) ≡ Err f → f ≡ fault 2 f.place
@@ -117,7 +117,7 @@ module _ (text : List ℕ) where
       where
         by : (b : Bool) → leb (length text) 8192 ≡ b → cond {A = Option ℕ} b None (Some 8192) ≡ None → length text ≤ 8192
         by true e h = leb-true (length text) 8192 e
-        by false e h = absurd (let z : ◌≡◌ {A = ℕ} 0 1 = cc in omega arith)
+        by false e h = cc
 
     pub stop_2 : (f : Fault) → tokens text ≡ Err f → FirstNo text f
     stop_2 f e = let g = tokens_fault text f e in (bytes_known, g, e ∙ ap Err g, pass_1)
@@ -294,6 +294,20 @@ module _ (text : List ℕ) (rs : List Row) (so : Parsed text rs) where
           named e = record { room = taken 7 _ e₇; pass = passes_more text numbers_in_range pass_10 (says_not (first_row out_of_range) (taken 11 _ e)) }
 
 -- ---- 12
+
+-- no question has anything against the text, and these are the counts of the script that the rows are
+pub record Counted (text : List ℕ) (rs found : List Row) (cell_count local_count step_count reading_count : ℕ) : Type 0 where
+  pub names_are : found ≡ names rs
+  pub names_few : length (names rs) ≤ 128
+  pub cells_are : cell_count ≡ cells (decode rs).decls
+  pub locals_are : local_count ≡ locals (decode rs).decls
+  pub cells_few : cell_count ≤ 64
+  pub locals_few : local_count ≤ 64
+  pub steps_are : step_count ≡ steps_of (decode rs)
+  pub readings_are : reading_count ≡ readings_of (decode rs)
+  pub steps_few : step_count ≤ 1000000
+  pub readings_few : reading_count ≤ 4096
+  pub pass : Passes 13 text
 
 module _ (text : List ℕ) (rs : List Row) (so : Parsed text rs) (no_less : Named text rs) where
   pub stop_12 : (f : Fault) → f ≡ fault 12 0 → Unbounded (decode rs) → FirstNo text f

@@ -3,15 +3,16 @@ use Rattle.std.proofs.Common.{◌≡◌, ℕ, zero, suc, ◌+◌, ◌*◌, ◌<�
 use Rattle.std.proofs.lemmas.Bool.{cases_lt, lt-ltb}
 use Rattle.script.specs.declared.row.Row.{Row}
 use Rattle.script.specs.declared.row.Role.TheVariants as role
-use Rattle.script.specs.Syntax.{Expr, alone, less, same, Sum, sum, Terms, no_term, plus, minus, Term, term, Factors, no_factor, times, over, Factor, number, negative, name, paren, Names, no_name, comma, Block, done, assign, reading, when, either, loop, atomic, together, Decls, no_decl, cell, minus_cell, var, fresh, Script, code}
+use Rattle.script.specs.Syntax.{Expr, Names, Block, done, assign, reading, when, either, loop, atomic, together, Decls, no_decl, cell, minus_cell, var, fresh, Script, code}
 use Rattle.script.specs.Steps.{steps, readings, steps_of, readings_of}
-use Rattle.script.specs.Written.{row, text_expr, text_sum, text_terms, text_term, text_factors, text_factor, text_names, text, text_decls, rows}
+use Rattle.script.specs.Written.{row, text_expr, text_names, text, text_decls, rows}
 use Rattle.reader.specs.declared.count.Total.{Total}
 use Rattle.reader.specs.declared.count.Outer.{Outer}
 use Rattle.reader.specs.declared.count.Outer.TheVariants.{Repeat, First, Second}
 use Rattle.reader.specs.Count.{cap_steps, cap_readings, total, none, add, multiply, larger, Acc, acc, more, enter, count}
 use Rattle.reader.proofs.Caps.{cap_product}
 use Rattle.reader.proofs.Nests.{depth}
+use Rattle.reader.proofs.Skips.{Skips, skip_expr, skip_names}
 
 -- ---- sums that stop at a limit
 
@@ -42,37 +43,14 @@ multiply_total n a b = at_totals _ _ _ _ (times_steps n a 1000001) (cap_product 
 
 -- ---- rows that count nothing
 
-mutual
-  skip_expr : (e : Expr) (rs : List Row) (a : Acc) → count (text_expr e rs) a ≡ count rs a
-  skip_expr (alone s) rs a = skip_sum s rs a
-  skip_expr (less s l u) rs a = skip_sum s (row role.Less l ∷ text_sum u rs) a ∙ skip_sum u rs a
-  skip_expr (same s l u) rs a = skip_sum s (row role.Same l ∷ text_sum u rs) a ∙ skip_sum u rs a
+idle : (a : Acc) → Skips (λ rs. count rs a)
+idle a = record { literal = λ l rs. refl; negate = λ l rs. refl; negated = λ l rs. refl; operand = λ l rs. refl; paren_open = λ l rs. refl; paren_close = λ l rs. refl; times_sign = λ l rs. refl; over_sign = λ l rs. refl; plus_sign = λ l rs. refl; minus_sign = λ l rs. refl; less_sign = λ l rs. refl; same_sign = λ l rs. refl; listed = λ l rs. refl; comma_sign = λ l rs. refl }
 
-  skip_sum : (s : Sum) (rs : List Row) (a : Acc) → count (text_sum s rs) a ≡ count rs a
-  skip_sum (sum t ts) rs a = skip_term t (text_terms ts rs) a ∙ skip_terms ts rs a
+over_expr : (e : Expr) (rs : List Row) (a : Acc) → count (text_expr e rs) a ≡ count rs a
+over_expr e rs a = skip_expr (λ l. count l a) (idle a) e rs
 
-  skip_terms : (ts : Terms) (rs : List Row) (a : Acc) → count (text_terms ts rs) a ≡ count rs a
-  skip_terms no_term rs a = refl
-  skip_terms (plus l t ts) rs a = skip_term t (text_terms ts rs) a ∙ skip_terms ts rs a
-  skip_terms (minus l t ts) rs a = skip_term t (text_terms ts rs) a ∙ skip_terms ts rs a
-
-  skip_term : (t : Term) (rs : List Row) (a : Acc) → count (text_term t rs) a ≡ count rs a
-  skip_term (term f fs) rs a = skip_factor f (text_factors fs rs) a ∙ skip_factors fs rs a
-
-  skip_factors : (fs : Factors) (rs : List Row) (a : Acc) → count (text_factors fs rs) a ≡ count rs a
-  skip_factors no_factor rs a = refl
-  skip_factors (times l f fs) rs a = skip_factor f (text_factors fs rs) a ∙ skip_factors fs rs a
-  skip_factors (over l f fs) rs a = skip_factor f (text_factors fs rs) a ∙ skip_factors fs rs a
-
-  skip_factor : (f : Factor) (rs : List Row) (a : Acc) → count (text_factor f rs) a ≡ count rs a
-  skip_factor (number l) rs a = refl
-  skip_factor (negative l n) rs a = refl
-  skip_factor (name x) rs a = refl
-  skip_factor (paren l e c) rs a = skip_expr e (row role.ParenClose c ∷ rs) a
-
-skip_names : (xs : Names) (rs : List Row) (a : Acc) → count (text_names xs rs) a ≡ count rs a
-skip_names no_name rs a = refl
-skip_names (comma c x xs) rs a = skip_names xs rs a
+over_names : (xs : Names) (rs : List Row) (a : Acc) → count (text_names xs rs) a ≡ count rs a
+over_names xs rs a = skip_names (λ l. count l a) (idle a) xs rs
 
 skip_decls : (ds : Decls) (rs : List Row) (a : Acc) → count (text_decls ds rs) a ≡ count rs a
 skip_decls no_decl rs a = refl
@@ -103,12 +81,12 @@ Counts b = (rs : List Row) (s r : ℕ) (os : List Outer) → length os + depth b
 pub counts : (b : Block) → Counts b
 counts done rs s r os h = moved rs s (s + 0) r (r + 0) os (omega arith) (omega arith)
 counts (assign x q e z k) rs s r os h =
-    skip_expr e (row role.SetEnd z ∷ text k rs) (more 1 0 (at s r os)) ∙ few (text k rs) s r 1 0 os ∙ counts k rs (s + 1) (r + 0) os h ∙ moved rs _ _ _ _ os (omega arith) (omega arith)
+    over_expr e (row role.SetEnd z ∷ text k rs) (more 1 0 (at s r os)) ∙ few (text k rs) s r 1 0 os ∙ counts k rs (s + 1) (r + 0) os h ∙ moved rs _ _ _ _ os (omega arith) (omega arith)
 counts (reading x q i c z k) rs s r os h =
     ap (λ (a : Acc). count (text k rs) (more 0 1 a)) (ap (λ t. acc t 0 os) (add_few s r 1 0)) ∙ few (text k rs) (s + 1) (r + 0) 0 1 os ∙ counts k rs (s + 1 + 0) (r + 0 + 1) os h ∙ moved rs _ _ _ _ os (omega arith) (omega arith)
 counts (when i e l a c k) rs s r os h =
     let after : List Row = row role.WhenClose c ∷ text k rs in
-    skip_expr e (row role.ThenOpen l ∷ text a after) (more 1 0 (at s r os))
+    over_expr e (row role.ThenOpen l ∷ text a after) (more 1 0 (at s r os))
     ∙ few (row role.ThenOpen l ∷ text a after) s r 1 0 os
     ∙ entered (text a after) (First (total (s + 1) (r + 0))) (at (s + 1) (r + 0) os) (omega arith)
     ∙ counts a after 0 0 (First (total (s + 1) (r + 0)) ∷ os) (omega arith)
@@ -120,7 +98,7 @@ counts (either i e l a c w l' b c' k) rs s r os h =
     let after : List Row = row role.ThenClose c ∷ row role.ElseWord w ∷ row role.ElseOpen l' ∷ text b last in
     let outer : Total = total (s + 1) (r + 0) in
     let first : Total = total (0 + steps (code a)) (0 + readings (code a)) in
-    skip_expr e (row role.ThenOpen l ∷ text a after) (more 1 0 (at s r os))
+    over_expr e (row role.ThenOpen l ∷ text a after) (more 1 0 (at s r os))
     ∙ few (row role.ThenOpen l ∷ text a after) s r 1 0 os
     ∙ entered (text a after) (First outer) (at (s + 1) (r + 0) os) (omega arith)
     ∙ counts a after 0 0 (First outer ∷ os) (omega arith)
@@ -153,7 +131,7 @@ counts (atomic w l b c k) rs s r os h =
     ∙ counts k rs _ _ os (omega arith)
     ∙ moved rs _ _ _ _ os (omega arith) (omega arith)
 counts (together w x xs z k) rs s r os h =
-    skip_names xs (row role.TogetherEnd z ∷ text k rs) (more 1 0 (at s r os)) ∙ few (text k rs) s r 1 0 os ∙ counts k rs (s + 1) (r + 0) os h ∙ moved rs _ _ _ _ os (omega arith) (omega arith)
+    over_names xs (row role.TogetherEnd z ∷ text k rs) (more 1 0 (at s r os)) ∙ few (text k rs) s r 1 0 os ∙ counts k rs (s + 1) (r + 0) os h ∙ moved rs _ _ _ _ os (omega arith) (omega arith)
 
 pub counts_script : (s : Script) → depth s.main < 16 → (count (rows s) (acc none 0 [])).here ≡ total (steps_of s) (readings_of s)
 counts_script s h =

@@ -5,67 +5,39 @@ use Rattle.std.proofs.lemmas.Bool.{leb-false, lt-ltb, true≢false}
 use Rattle.script.specs.declared.row.Row.{Row}
 use Rattle.script.specs.declared.row.Role.{Role}
 use Rattle.script.specs.declared.row.Role.TheVariants as role
-use Rattle.script.specs.Syntax.{Expr, alone, less, same, Sum, sum, Terms, no_term, plus, minus, Term, term, Factors, no_factor, times, over, Factor, number, negative, name, paren, Names, no_name, comma, Block, done, assign, reading, when, either, loop, atomic, together, Decls, no_decl, cell, minus_cell, var, fresh, Script}
+use Rattle.script.specs.Syntax.{Block, done, assign, reading, when, either, loop, atomic, together, Decls, no_decl, cell, minus_cell, var, fresh, Script}
 use Rattle.script.specs.Steps.{cells, locals}
-use Rattle.script.specs.Written.{row, text_expr, text_sum, text_terms, text_term, text_factors, text_factor, text_names, text, text_decls, rows}
+use Rattle.script.specs.Written.{row, text, text_decls, rows}
 use Rattle.script.specs.Tokens.{spelled}
+use Rattle.reader.proofs.Skips.{Skips, skip_expr, skip_names}
 use Rattle.script.specs.Roles.{declares_cell, declares_local, declares, mentions, those}
 use Rattle.script.specs.Names.{same_name, index_of, names, counted, full, crowded, numbered, all_numbered}
 
 -- ---- main's rows declare nothing
 
-mutual
-  quiet_expr : (e : Expr) (rs : List Row) → those declares (text_expr e rs) ≡ those declares rs
-  quiet_expr (alone s) rs = quiet_sum s rs
-  quiet_expr (less s o u) rs = quiet_sum s (row role.Less o ∷ text_sum u rs) ∙ quiet_sum u rs
-  quiet_expr (same s o u) rs = quiet_sum s (row role.Same o ∷ text_sum u rs) ∙ quiet_sum u rs
-
-  quiet_sum : (s : Sum) (rs : List Row) → those declares (text_sum s rs) ≡ those declares rs
-  quiet_sum (sum t ts) rs = quiet_term t (text_terms ts rs) ∙ quiet_terms ts rs
-
-  quiet_terms : (ts : Terms) (rs : List Row) → those declares (text_terms ts rs) ≡ those declares rs
-  quiet_terms no_term rs = refl
-  quiet_terms (plus o t ts) rs = quiet_term t (text_terms ts rs) ∙ quiet_terms ts rs
-  quiet_terms (minus o t ts) rs = quiet_term t (text_terms ts rs) ∙ quiet_terms ts rs
-
-  quiet_term : (t : Term) (rs : List Row) → those declares (text_term t rs) ≡ those declares rs
-  quiet_term (term f fs) rs = quiet_factor f (text_factors fs rs) ∙ quiet_factors fs rs
-
-  quiet_factors : (fs : Factors) (rs : List Row) → those declares (text_factors fs rs) ≡ those declares rs
-  quiet_factors no_factor rs = refl
-  quiet_factors (times o f fs) rs = quiet_factor f (text_factors fs rs) ∙ quiet_factors fs rs
-  quiet_factors (over o f fs) rs = quiet_factor f (text_factors fs rs) ∙ quiet_factors fs rs
-
-  quiet_factor : (f : Factor) (rs : List Row) → those declares (text_factor f rs) ≡ those declares rs
-  quiet_factor (number n) rs = refl
-  quiet_factor (negative m n) rs = refl
-  quiet_factor (name x) rs = refl
-  quiet_factor (paren o e c) rs = quiet_expr e (row role.ParenClose c ∷ rs)
-
-quiet_names : (xs : Names) (rs : List Row) → those declares (text_names xs rs) ≡ those declares rs
-quiet_names no_name rs = refl
-quiet_names (comma c x xs) rs = quiet_names xs rs
+quiet : Skips (those declares)
+quiet = record { literal = λ l rs. refl; negate = λ l rs. refl; negated = λ l rs. refl; operand = λ l rs. refl; paren_open = λ l rs. refl; paren_close = λ l rs. refl; times_sign = λ l rs. refl; over_sign = λ l rs. refl; plus_sign = λ l rs. refl; minus_sign = λ l rs. refl; less_sign = λ l rs. refl; same_sign = λ l rs. refl; listed = λ l rs. refl; comma_sign = λ l rs. refl }
 
 quiet_block : (b : Block) (rs : List Row) → those declares (text b rs) ≡ those declares rs
 quiet_block done rs = refl
 quiet_block (assign x e v z k) rs =
-    quiet_expr v (row role.SetEnd z ∷ text k rs) ∙ quiet_block k rs
+    skip_expr (those declares) quiet v (row role.SetEnd z ∷ text k rs) ∙ quiet_block k rs
 quiet_block (reading x e i c z k) rs =
     quiet_block k rs
 quiet_block (when i e o a c k) rs =
-    quiet_expr e (row role.ThenOpen o ∷ text a (row role.WhenClose c ∷ text k rs))
+    skip_expr (those declares) quiet e (row role.ThenOpen o ∷ text a (row role.WhenClose c ∷ text k rs))
     ∙ quiet_block a (row role.WhenClose c ∷ text k rs) ∙ quiet_block k rs
 quiet_block (either i e o a c w o' b c' k) rs =
     let last : List Row = row role.ElseClose c' ∷ text k rs in
     let mid : List Row = row role.ThenClose c ∷ row role.ElseWord w ∷ row role.ElseOpen o' ∷ text b last in
-    quiet_expr e (row role.ThenOpen o ∷ text a mid) ∙ quiet_block a mid
+    skip_expr (those declares) quiet e (row role.ThenOpen o ∷ text a mid) ∙ quiet_block a mid
     ∙ quiet_block b last ∙ quiet_block k rs
 quiet_block (loop r n o b c k) rs =
     quiet_block b (row role.BodyClose c ∷ text k rs) ∙ quiet_block k rs
 quiet_block (atomic a o b c k) rs =
     quiet_block b (row role.RegionClose c ∷ text k rs) ∙ quiet_block k rs
 quiet_block (together w x xs z k) rs =
-    quiet_names xs (row role.TogetherEnd z ∷ text k rs) ∙ quiet_block k rs
+    skip_names (those declares) quiet xs (row role.TogetherEnd z ∷ text k rs) ∙ quiet_block k rs
 
 -- main's rows, from its word on
 quiet_main : (s : Script) → those declares (row role.MainWord s.word ∷ row role.MainOpen s.open' ∷ text s.main (row role.MainClose s.close ∷ [])) ≡ []
@@ -150,7 +122,7 @@ module _ where
   room_left c l (r ∷ rs) p q h = by (full c l r) refl h (λ p' q' g. room_left (counted (declares_cell r.role) c) (counted (declares_local r.role) l) rs p' q' g)
     where
       none : {X : Type 0} (k : ℕ) → Some k ≡ None → X
-      none k e = absurd (let z : ◌≡◌ {A = ℕ} 0 1 = cc in omega arith)
+      none k e = cc
 
       by : (b : Bool) → full c l r ≡ b → cond b (Some r.place) (crowded (counted (declares_cell r.role) c) (counted (declares_local r.role) l) rs) ≡ None → (counted (declares_cell r.role) c ≤ 64 → counted (declares_local r.role) l ≤ 64 → crowded (counted (declares_cell r.role) c) (counted (declares_local r.role) l) rs ≡ None → Room (counted (declares_cell r.role) c) (counted (declares_local r.role) l) rs) → Room c l (r ∷ rs)
       by true e g ih = none _ g

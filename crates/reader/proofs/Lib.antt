@@ -1,4 +1,5 @@
 pub mod Listing
+pub mod Skips
 pub mod Loops
 pub mod Caps
 pub mod Nests

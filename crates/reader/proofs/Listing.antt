@@ -1,29 +1,16 @@
 -- Lists cut to a length, and names looked up one by one. Assumes nothing.
-use Rattle.std.proofs.Common.{◌≡◌, ℕ, zero, suc, ◌+◌, ◌-◌, ◌<◌, ◌≤◌, min, Bool, true, false, cond, List, [], ◌∷◌, ◌++◌, length, get_or, take, drop, set, sym, refl, ap, ◌∙◌, ⊎_elim, append_assoc, arith, length-drop, length-take}
-use Rattle.std.proofs.lemmas.List.{at_drop_more, at_drop_all, take_more_set, take_all, drop_all, append-nil, take_at}
-use Rattle.std.proofs.lemmas.Bool.{cases_lt}
+use Rattle.std.proofs.Common.{◌≡◌, ℕ, zero, suc, ◌+◌, ◌<◌, ◌≤◌, Bool, true, false, cond, not, ltb, is_some, unwrap_or, Option, Some, None, List, [], ◌∷◌, ◌++◌, length, get_or, take, drop, sym, refl, ap, ◌∙◌, append_assoc, arith, length-take, length-append}
+use Rattle.std.proofs.lemmas.List.{at_drop_more, at_drop_all, take_all, append-nil, take_at}
+use Rattle.std.proofs.lemmas.Bool.{ltb-false, ltb-true}
+use Rattle.std.proofs.lemmas.List.Recursion.{is_position_or_len}
+use Rattle.std.proofs.lemmas.List.Sums.{prefix_len-le-length}
+use Rattle.std.specs.List.{position, position_or_len, find}
+use Rattle.std.specs.Option.{option_map}
+use Rattle.list.specs.Entries.{added}
 use Rattle.script.specs.declared.row.Role.{Role}
 use Rattle.script.specs.declared.row.Row.{Row}
-use Rattle.script.specs.Names.{same_name, index_of}
-use Rattle.script.specs.Roles.{those}
-
-pub take_min : {A : Type 0} (n : ℕ) (xs : List A) → take (min n (length xs)) xs ≡ take n xs
-take_min n xs = ⊎_elim
-    (λ h. let e : min n (length xs) ≡ length xs = omega arith in ap (λ k. take k xs) e ∙ take_all (length xs) xs (omega arith) ∙ sym (take_all n xs (omega arith)))
-    (λ h. let e : min n (length xs) ≡ n = omega arith in ap (λ k. take k xs) e)
-    (cases_lt (length xs) n)
-
-drop_min : {A : Type 0} (n : ℕ) (xs : List A) → drop (min n (length xs)) xs ≡ drop n xs
-drop_min n xs = ⊎_elim
-    (λ h. let e : min n (length xs) ≡ length xs = omega arith in ap (λ k. drop k xs) e ∙ drop_all (length xs) xs (omega arith) ∙ sym (drop_all n xs (omega arith)))
-    (λ h. let e : min n (length xs) ≡ n = omega arith in ap (λ k. drop k xs) e)
-    (cases_lt (length xs) n)
-
--- a part that is cut at the list's end
-pub cut : {A : Type 0} (xs : List A) (p n f l : ℕ) → f ≡ min p (length xs) → l ≡ min n (length xs - f) → take (f + l - f) (drop f xs) ≡ take n (drop p xs)
-cut xs p n f l e h =
-    let z : f + l - f ≡ min n (length (drop f xs)) = omega (arith, length-drop f xs) in
-    ap (λ k. take k (drop f xs)) z ∙ take_min n (drop f xs) ∙ ap (λ k. take n (drop k xs)) e ∙ ap (take n) (drop_min p xs)
+use Rattle.script.specs.Names.{same_name, index_of, among}
+use Rattle.script.specs.Roles.{those, first_row}
 
 pub take_take_append : {A : Type 0} (n : ℕ) (xs ys : List A) → take n (take n xs ++ ys) ≡ take n (xs ++ ys)
 take_take_append zero xs ys = refl
@@ -32,15 +19,16 @@ take_take_append (suc n) (x ∷ xs) ys = ap (λ l. x ∷ l) (take_take_append n 
 
 -- ---- one entry more, while there is room
 
-pub pushed : {A : Type 0} (most : ℕ) (xs : List A) (n : ℕ) (x : A) → n < most → length xs ≡ most → take (n + 1) (set xs n x) ≡ take most (take n xs ++ x ∷ [])
-pushed most xs n x h long =
-    let e = take_more_set xs n x (omega arith) in
-    e ∙ sym (take_all most (take n xs ++ x ∷ []) (omega (arith, ap length (sym e), length-take (n + 1) (set xs n x))))
+module _ {A : Type 0} (most : ℕ) (xs : List A) (x : A) (ys : List A) (few : length xs ≤ most) (is : ys ≡ added xs most x) where
+  pub pushed : ys ≡ take most (xs ++ x ∷ [])
+  pushed = is ∙ by (ltb (length xs) most) refl
+    where
+      by : (b : Bool) → ltb (length xs) most ≡ b → cond b (xs ++ x ∷ []) xs ≡ take most (xs ++ x ∷ [])
+      by true e = sym (take_all most (xs ++ x ∷ []) (let h = ltb-true (length xs) most e in omega (arith, h, length-append xs (x ∷ []))))
+      by false e = let h = ltb-false (length xs) most e in sym (take_at xs (x ∷ []) most (omega arith))
 
-pub pushed_past : {A : Type 0} (most : ℕ) (xs : List A) (n : ℕ) (x : A) → most ≤ n → n ≤ most → length xs ≡ most → take n xs ≡ take most (take n xs ++ x ∷ [])
-pushed_past most xs n x h g long =
-    let l : length (take n xs) ≡ most = omega (arith, length-take n xs) in
-    sym (take_at (take n xs) (x ∷ []) most l)
+  pub pushed_few : length ys ≤ most
+  pushed_few = omega (arith, ap length pushed, length-take most (xs ++ x ∷ []))
 
 -- ---- the names of a kind
 
@@ -70,22 +58,30 @@ module _ (test : Role → Bool) (rs before now' : List Row) (i : ℕ) (so : Adde
 
 -- ---- where a name stands first
 
-abbrev pub Sought : List ℕ → Row → List Row → ℕ → Type 0
-Sought text x ys i = i + index_of text x (drop i ys) ≡ index_of text x ys
+module _ (t : List ℕ) (x : Row) (ys : List Row) where
+  index_is : index_of t x ys ≡ position_or_len (same_name t x) ys
+  index_is = is_position_or_len (index_of t x) (same_name t x) refl (λ y zs. ap (cond (same_name t x y) 0) (omega arith)) ys
 
-module _ (text : List ℕ) (x : Row) (ys : List Row) (i : ℕ) (so : Sought text x ys i) where
-  module _ (lt : i < length ys) (d : Row) where
-    pub found : true ≡ same_name text x (get_or ys i d) → i ≡ index_of text x ys
-    found e =
-        let s : index_of text x (drop i ys) ≡ 0 = at_drop_more (index_of text x) ys i d lt ∙ ap (λ b. cond b 0 (suc (index_of text x (drop (i + 1) ys)))) (sym e) in
-        omega (arith, so, s)
+  module _ (o : Option ℕ) (is : o ≡ position (same_name t x) ys) where
+    pub index_found : unwrap_or o (length ys) ≡ index_of t x ys
+    index_found = ap (λ p. unwrap_or p (length ys)) is ∙ by (ltb (position_or_len (same_name t x) ys) (length ys)) refl ∙ sym index_is
+      where
+        by : (b : Bool) → ltb (position_or_len (same_name t x) ys) (length ys) ≡ b → unwrap_or (cond b (Some (position_or_len (same_name t x) ys)) None) (length ys) ≡ position_or_len (same_name t x) ys
+        by true e = refl
+        by false e = let h = ltb-false (position_or_len (same_name t x) ys) (length ys) e in let g = prefix_len-le-length (λ y. not (same_name t x y)) ys in omega (arith, h, g)
 
-    pub passed : false ≡ same_name text x (get_or ys i d) → Sought text x ys (i + 1)
-    passed e =
-        let s : index_of text x (drop i ys) ≡ suc (index_of text x (drop (i + 1) ys)) = at_drop_more (index_of text x) ys i d lt ∙ ap (λ b. cond b 0 (suc (index_of text x (drop (i + 1) ys)))) (sym e) in
-        omega (arith, so, s)
+    pub among_found : is_some o ≡ among t x ys
+    among_found = ap is_some is ∙ by (ltb (position_or_len (same_name t x) ys) (length ys)) ∙ ap (λ n. ltb n (length ys)) (sym index_is)
+      where
+        by : (b : Bool) → is_some (cond b (Some (position_or_len (same_name t x) ys)) None) ≡ b
+        by true = refl
+        by false = refl
 
-  pub unfound : length ys ≤ i → i ≤ length ys → length ys ≡ index_of text x ys
-  unfound h g =
-      let s : index_of text x (drop i ys) ≡ 0 = at_drop_all (index_of text x) ys i h in
-      omega (arith, so, s)
+-- the first row that a test holds of, and its place
+pub first_place : (test : Row → Bool) (rs : List Row) → option_map (λ (r : Row). r.place) (find test rs) ≡ first_row test rs
+first_place test [] = refl
+first_place test (r ∷ rs) = by (test r) (first_place test rs)
+  where
+    by : (b : Bool) → option_map (λ (x : Row). x.place) (find test rs) ≡ first_row test rs → option_map (λ (x : Row). x.place) (cond b (Some r) (find test rs)) ≡ cond b (Some r.place) (first_row test rs)
+    by true h = refl
+    by false h = h

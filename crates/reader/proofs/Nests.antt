@@ -19,7 +19,7 @@ depth (atomic a o b c k) = max (1 + depth b) (depth k)
 depth (together t x xs z k) = depth k
 
 some_none : {X : Type 0} (p : ℕ) → Some p ≡ None → X
-some_none p e = absurd (let z : ◌≡◌ {A = ℕ} 0 1 = cc in omega arith)
+some_none p e = cc
 
 opened : (o p : ℕ) (more : ℕ → Option ℕ) → or_stop p (cond (leb 16 o) None (Some (o + 1))) more ≡ None → (o < 16) × (more (o + 1) ≡ None)
 opened o p more h = by (leb 16 o) refl h

@@ -25,57 +25,57 @@ use Rattle.reader.proofs.Renumber.{role_kept}
 
 -- a number is written by a number's token, and is no name
 told : (r : Role) → is_number r ≡ true → (sym_of r ≡ sym.Number) × ((declares r || mentions r) ≡ false)
-told role.CellWord e = absurd (true≢false (sym e))
-told role.CellName e = absurd (true≢false (sym e))
-told role.CellIs e = absurd (true≢false (sym e))
-told role.CellMinus e = absurd (true≢false (sym e))
+told role.CellWord e = cc
+told role.CellName e = cc
+told role.CellIs e = cc
+told role.CellMinus e = cc
 told role.CellNumber e = (refl, refl)
-told role.CellEnd e = absurd (true≢false (sym e))
-told role.VarWord e = absurd (true≢false (sym e))
-told role.VarName e = absurd (true≢false (sym e))
-told role.VarEnd e = absurd (true≢false (sym e))
-told role.FreshWord e = absurd (true≢false (sym e))
-told role.FreshName e = absurd (true≢false (sym e))
-told role.FreshEnd e = absurd (true≢false (sym e))
-told role.MainWord e = absurd (true≢false (sym e))
-told role.MainOpen e = absurd (true≢false (sym e))
-told role.MainClose e = absurd (true≢false (sym e))
-told role.Target e = absurd (true≢false (sym e))
-told role.Becomes e = absurd (true≢false (sym e))
-told role.SetEnd e = absurd (true≢false (sym e))
-told role.InWord e = absurd (true≢false (sym e))
+told role.CellEnd e = cc
+told role.VarWord e = cc
+told role.VarName e = cc
+told role.VarEnd e = cc
+told role.FreshWord e = cc
+told role.FreshName e = cc
+told role.FreshEnd e = cc
+told role.MainWord e = cc
+told role.MainOpen e = cc
+told role.MainClose e = cc
+told role.Target e = cc
+told role.Becomes e = cc
+told role.SetEnd e = cc
+told role.InWord e = cc
 told role.Channel e = (refl, refl)
-told role.ReadEnd e = absurd (true≢false (sym e))
-told role.IfWord e = absurd (true≢false (sym e))
-told role.ThenOpen e = absurd (true≢false (sym e))
-told role.WhenClose e = absurd (true≢false (sym e))
-told role.ThenClose e = absurd (true≢false (sym e))
-told role.ElseWord e = absurd (true≢false (sym e))
-told role.ElseOpen e = absurd (true≢false (sym e))
-told role.ElseClose e = absurd (true≢false (sym e))
-told role.RepeatWord e = absurd (true≢false (sym e))
+told role.ReadEnd e = cc
+told role.IfWord e = cc
+told role.ThenOpen e = cc
+told role.WhenClose e = cc
+told role.ThenClose e = cc
+told role.ElseWord e = cc
+told role.ElseOpen e = cc
+told role.ElseClose e = cc
+told role.RepeatWord e = cc
 told role.Count e = (refl, refl)
-told role.BodyOpen e = absurd (true≢false (sym e))
-told role.BodyClose e = absurd (true≢false (sym e))
-told role.AtomicWord e = absurd (true≢false (sym e))
-told role.RegionOpen e = absurd (true≢false (sym e))
-told role.RegionClose e = absurd (true≢false (sym e))
-told role.TogetherWord e = absurd (true≢false (sym e))
-told role.Listed e = absurd (true≢false (sym e))
-told role.Comma e = absurd (true≢false (sym e))
-told role.TogetherEnd e = absurd (true≢false (sym e))
-told role.Operand e = absurd (true≢false (sym e))
+told role.BodyOpen e = cc
+told role.BodyClose e = cc
+told role.AtomicWord e = cc
+told role.RegionOpen e = cc
+told role.RegionClose e = cc
+told role.TogetherWord e = cc
+told role.Listed e = cc
+told role.Comma e = cc
+told role.TogetherEnd e = cc
+told role.Operand e = cc
 told role.Literal e = (refl, refl)
-told role.Negate e = absurd (true≢false (sym e))
+told role.Negate e = cc
 told role.Negated e = (refl, refl)
-told role.ParenOpen e = absurd (true≢false (sym e))
-told role.ParenClose e = absurd (true≢false (sym e))
-told role.Times e = absurd (true≢false (sym e))
-told role.Over e = absurd (true≢false (sym e))
-told role.Plus e = absurd (true≢false (sym e))
-told role.Minus e = absurd (true≢false (sym e))
-told role.Less e = absurd (true≢false (sym e))
-told role.Same e = absurd (true≢false (sym e))
+told role.ParenOpen e = cc
+told role.ParenClose e = cc
+told role.Times e = cc
+told role.Over e = cc
+told role.Plus e = cc
+told role.Minus e = cc
+told role.Less e = cc
+told role.Same e = cc
 
 module _ (t : List ℕ) (ys : List Row) where
   abbrev given : Row → Row
@@ -98,7 +98,7 @@ module _ (t : List ℕ) (ys : List Row) where
   fits_kept (r ∷ rs) e = by (too_long (token r)) refl e (λ h. fits_kept rs h)
     where
       by : (b : Bool) → too_long (token r) ≡ b → cond b (Some r.place) (first_where too_long (map token rs)) ≡ None → (first_where too_long (map token rs) ≡ None → all_fit (map (numbered t ys) rs) ≡ true) → all_fit (map (numbered t ys) (r ∷ rs)) ≡ true
-      by true i h ih = absurd (let z : ◌≡◌ {A = ℕ} 0 1 = cc in omega arith)
+      by true i h ih = cc
       by false i h ih = one_row r i (all_fit (map (numbered t ys) rs)) (ih h)
 
 never : (o : Option ℕ) → ((p : ℕ) → o ≡ Some p → ⊥) → o ≡ None

@@ -1,16 +1,17 @@
 -- Each repeat of a read script takes at least one turn: question 11 made sure of it, numbering the names leaves
 -- the counts alone, and what holds of the rows holds of the script. Assumes nothing.
-use Rattle.std.proofs.Common.{◌≡◌, ℕ, Bool, true, false, cond, not, ◌&&◌, ◌||◌, eqb, leb, List, [], ◌∷◌, map, Some, None, sym, refl, ap, ◌∙◌, arith}
+use Rattle.std.proofs.Common.{◌≡◌, ℕ, Bool, true, false, cond, not, ◌&&◌, ◌||◌, eqb, leb, List, [], ◌∷◌, map, Some, None, sym, refl, ap, ◌∙◌}
 use mathlib.Core.Bool.{and_assoc}
 use Rattle.std.proofs.lemmas.Bool.{eqb-true, true≢false}
 use Rattle.script.specs.declared.row.Row.{Row}
 use Rattle.script.specs.declared.row.Role.TheVariants as role
-use Rattle.script.specs.Syntax.{Expr, alone, less, same, Sum, sum, Terms, no_term, plus, minus, Term, term, Factors, no_factor, times, over, Factor, number, negative, name, paren, Names, no_name, comma, Block, done, assign, reading, when, either, loop, atomic, together, Decls, no_decl, cell, minus_cell, var, fresh, Script, code}
+use Rattle.script.specs.Syntax.{Block, done, assign, reading, when, either, loop, atomic, together, Decls, no_decl, cell, minus_cell, var, fresh, Script, code}
 use Rattle.script.specs.Steps.{repeats}
-use Rattle.script.specs.Written.{row, text_expr, text_sum, text_terms, text_term, text_factors, text_factor, text_names, text, text_decls, rows}
+use Rattle.script.specs.Written.{row, text, text_decls, rows}
 use Rattle.script.specs.Roles.{role_number, is, first_row}
 use Rattle.script.specs.Names.{index_of, out_of_range, numbered, all_repeat}
 use Rattle.reader.proofs.Renumber.{role_kept}
+use Rattle.reader.proofs.Skips.{Skips, skip_expr, skip_names}
 
 -- ---- numbering leaves the counts alone
 
@@ -50,42 +51,13 @@ module _ (t : List ℕ) (ys : List Row) where
   counts_kept (r ∷ rs) e = by (out_of_range r) refl e (λ h. counts_kept rs h)
     where
       by : (b : Bool) → out_of_range r ≡ b → cond b (Some r.place) (first_row out_of_range rs) ≡ None → (first_row out_of_range rs ≡ None → all_repeat (map (numbered t ys) rs) ≡ true) → all_repeat (map (numbered t ys) (r ∷ rs)) ≡ true
-      by true i h ih = absurd (let z : ◌≡◌ {A = ℕ} 0 1 = cc in omega arith)
+      by true i h ih = cc
       by false i h ih = one_row r i (all_repeat (map (numbered t ys) rs)) (ih h)
 
 -- ---- what holds of the rows holds of the script
 
-mutual
-  skip_expr : (e : Expr) (rs : List Row) → all_repeat (text_expr e rs) ≡ all_repeat rs
-  skip_expr (alone s) rs = skip_sum s rs
-  skip_expr (less s o u) rs = skip_sum s (row role.Less o ∷ text_sum u rs) ∙ skip_sum u rs
-  skip_expr (same s o u) rs = skip_sum s (row role.Same o ∷ text_sum u rs) ∙ skip_sum u rs
-
-  skip_sum : (s : Sum) (rs : List Row) → all_repeat (text_sum s rs) ≡ all_repeat rs
-  skip_sum (sum t ts) rs = skip_term t (text_terms ts rs) ∙ skip_terms ts rs
-
-  skip_terms : (ts : Terms) (rs : List Row) → all_repeat (text_terms ts rs) ≡ all_repeat rs
-  skip_terms no_term rs = refl
-  skip_terms (plus o t ts) rs = skip_term t (text_terms ts rs) ∙ skip_terms ts rs
-  skip_terms (minus o t ts) rs = skip_term t (text_terms ts rs) ∙ skip_terms ts rs
-
-  skip_term : (t : Term) (rs : List Row) → all_repeat (text_term t rs) ≡ all_repeat rs
-  skip_term (term f fs) rs = skip_factor f (text_factors fs rs) ∙ skip_factors fs rs
-
-  skip_factors : (fs : Factors) (rs : List Row) → all_repeat (text_factors fs rs) ≡ all_repeat rs
-  skip_factors no_factor rs = refl
-  skip_factors (times o f fs) rs = skip_factor f (text_factors fs rs) ∙ skip_factors fs rs
-  skip_factors (over o f fs) rs = skip_factor f (text_factors fs rs) ∙ skip_factors fs rs
-
-  skip_factor : (f : Factor) (rs : List Row) → all_repeat (text_factor f rs) ≡ all_repeat rs
-  skip_factor (number n) rs = refl
-  skip_factor (negative m n) rs = refl
-  skip_factor (name x) rs = refl
-  skip_factor (paren o e c) rs = skip_expr e (row role.ParenClose c ∷ rs)
-
-skip_names : (xs : Names) (rs : List Row) → all_repeat (text_names xs rs) ≡ all_repeat rs
-skip_names no_name rs = refl
-skip_names (comma c x xs) rs = skip_names xs rs
+no_count : Skips all_repeat
+no_count = record { literal = λ l rs. refl; negate = λ l rs. refl; negated = λ l rs. refl; operand = λ l rs. refl; paren_open = λ l rs. refl; paren_close = λ l rs. refl; times_sign = λ l rs. refl; over_sign = λ l rs. refl; plus_sign = λ l rs. refl; minus_sign = λ l rs. refl; less_sign = λ l rs. refl; same_sign = λ l rs. refl; listed = λ l rs. refl; comma_sign = λ l rs. refl }
 
 skip_decls : (ds : Decls) (rs : List Row) → all_repeat (text_decls ds rs) ≡ all_repeat rs
 skip_decls no_decl rs = refl
@@ -103,15 +75,15 @@ two a k before rest e = e ∙ sym (and_assoc (of a) (of k) rest)
 
 block : (b : Block) (rs : List Row) → all_repeat (text b rs) ≡ (of b && all_repeat rs)
 block done rs = refl
-block (assign x q e z k) rs = skip_expr e (row role.SetEnd z ∷ text k rs) ∙ block k rs
+block (assign x q e z k) rs = skip_expr all_repeat no_count e (row role.SetEnd z ∷ text k rs) ∙ block k rs
 block (reading x q i c z k) rs = block k rs
 block (when i e o a c k) rs =
-    skip_expr e (row role.ThenOpen o ∷ text a (row role.WhenClose c ∷ text k rs))
+    skip_expr all_repeat no_count e (row role.ThenOpen o ∷ text a (row role.WhenClose c ∷ text k rs))
     ∙ two a k _ (all_repeat rs) (block a (row role.WhenClose c ∷ text k rs) ∙ ap (λ y. of a && y) (block k rs))
 block (either i e o a c w o' b c' k) rs =
     let last : List Row = row role.ElseClose c' ∷ text k rs in
     let mid : List Row = row role.ThenClose c ∷ row role.ElseWord w ∷ row role.ElseOpen o' ∷ text b last in
-    skip_expr e (row role.ThenOpen o ∷ text a mid)
+    skip_expr all_repeat no_count e (row role.ThenOpen o ∷ text a mid)
     ∙ block a mid
     ∙ ap (λ y. of a && y) (two b k _ (all_repeat rs) (block b last ∙ ap (λ y. of b && y) (block k rs)))
     ∙ sym (and_assoc (of a) (of b && of k) (all_repeat rs))
@@ -120,7 +92,7 @@ block (loop r n o b c k) rs =
     ∙ sym (and_assoc (leb 1 n.value) (of b && of k) (all_repeat rs))
 block (atomic a o b c k) rs =
     two b k _ (all_repeat rs) (block b (row role.RegionClose c ∷ text k rs) ∙ ap (λ y. of b && y) (block k rs))
-block (together w x xs z k) rs = skip_names xs (row role.TogetherEnd z ∷ text k rs) ∙ block k rs
+block (together w x xs z k) rs = skip_names all_repeat no_count xs (row role.TogetherEnd z ∷ text k rs) ∙ block k rs
 
 left : (a b : Bool) → (a && b) ≡ true → a ≡ true
 left true b e = refl

@@ -1,5 +1,5 @@
 -- Counting steps and readings by one walk of the rows, with a stack of what is counted outside the block. Assumes nothing.
-use Rattle.std.specs.Prelude.{ℕ, zero, suc, ◌+◌, ◌*◌, min, max, cond, ◌||◌, List, [], ◌∷◌, length, nat_lt, slice_index_or}
+use Rattle.std.specs.Prelude.{ℕ, ◌+◌, ◌*◌, min, max, cond, ◌||◌, List, [], ◌∷◌, length, nat_lt, reverse}
 use Rattle.script.specs.declared.row.Role.{Role}
 use Rattle.script.specs.declared.row.Role.TheVariants as role
 use Rattle.script.specs.declared.row.Row.{Row}
@@ -82,10 +82,6 @@ abbrev pub count : List Row → Acc → Acc
 count [] a = a
 count (r ∷ rs) a = count rs (does r.role r.value a)
 
--- the stack in an array, with its top at n - 1
-abbrev pub stack_of : List Outer → ℕ → List Outer
-stack_of os zero = []
-stack_of os (suc n) = slice_index_or os n (Repeat 0 none) ∷ stack_of os n
-
+-- the stack has its top at the end
 abbrev pub view : Tally → Acc
-view t = acc t.here t.times (stack_of t.outer t.depth)
+view t = acc t.here t.times (reverse t.outer.items)

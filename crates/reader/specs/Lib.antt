@@ -1,4 +1,3 @@
-pub mod Wanted
 pub mod Count
 pub mod Stages
 pub mod Holding

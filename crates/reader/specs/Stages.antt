@@ -8,8 +8,8 @@ use Rattle.script.specs.Nesting.{nesting}
 use Rattle.script.specs.Written.{token, rows}
 use Rattle.script.specs.Decode.{decode}
 use Rattle.script.specs.Syntax.{Script}
-use Rattle.script.specs.Steps.{cells, locals, steps_of, readings_of}
-use Rattle.script.specs.Names.{crowded, names}
+use Rattle.script.specs.Steps.{steps_of, readings_of}
+use Rattle.script.specs.Names.{crowded}
 use Rattle.script.specs.Questions.{Passes}
 
 -- questions 1 to 4 have nothing against the text, whose tokens are these
@@ -30,20 +30,6 @@ pub record Parsed (text : List ℕ) (rs : List Row) : Type 0 where
 pub record Named (text : List ℕ) (rs : List Row) : Type 0 where
   pub room : crowded 0 0 rs ≡ None
   pub pass : Passes 12 text
-
--- no question has anything against the text, and these are the counts of the script that the rows are
-pub record Counted (text : List ℕ) (rs found : List Row) (cell_count local_count step_count reading_count : ℕ) : Type 0 where
-  pub names_are : found ≡ names rs
-  pub names_few : length (names rs) ≤ 128
-  pub cells_are : cell_count ≡ cells (decode rs).decls
-  pub locals_are : local_count ≡ locals (decode rs).decls
-  pub cells_few : cell_count ≤ 64
-  pub locals_few : local_count ≤ 64
-  pub steps_are : step_count ≡ steps_of (decode rs)
-  pub readings_are : reading_count ≡ readings_of (decode rs)
-  pub steps_few : step_count ≤ 1000000
-  pub readings_few : reading_count ≤ 4096
-  pub pass : Passes 13 text
 
 -- the script has too many steps or readings
 abbrev pub Unbounded : Script → Type 0

@@ -1,11 +1,11 @@
-// The numbers that the cells of a script are declared with: the first `len` values, one for each cell,
-// in the order of their declarations.
-ghost use Rattle.std.specs.Prelude.{◌≡◌, ◌≤◌, length};
+// The numbers that the cells of a script are declared with, one for each cell, in the order of their
+// declarations.
+ghost use Rattle.std.specs.Prelude.{◌≤◌, length};
+
+use list::fixed::Fixed;
 
 #[derive(Clone, Copy)]
 pub struct Declared {
-    pub(crate) values: [i32; 64],
-    pub(crate) len: usize,
-    ghost few: { len ≤ 64 },
-    ghost long: { length values ≡ 64 },
+    pub(crate) values: Fixed<i32, 64>,
+    ghost few: { length values.items ≤ 64 },
 }

@@ -7,39 +7,28 @@ ghost use Rattle.reader.specs.Holding.{Holds, rows_in, syntax, empty};
 ghost use Rattle.reader.specs.Stages.{Parsed};
 
 use crate::drive::Script;
-use crate::names::ask::number_all;
-use crate::stages::{Found, ask_script};
+use crate::stages::{ask_bounds, ask_names, cells_of, names_of};
 use lexer::tokens::Tokens;
+use list::fixed::Fixed;
 use parser::rows::Rows;
 use script::fault::Fault;
 use script::row::{Role, Row};
-
-const NO_ROW: Row = Row {
-    role: Role::MainWord,
-    place: 0,
-    len: 0,
-    value: 0,
-};
 
 // Questions 7 to 12 on the rows read from the text, and the script that they are.
 fn build(text: &[u8], rows: &[Row]) -> Result<Script, Fault>
     requires { Parsed text.now rows.now }
     ensures { MatchResult result (λ s. Holds text.now (rows_in s)) (λ f. FirstNo text.now f) }
 {
-    let Found {
-        names,
-        cells,
-        locals,
-        total,
-    } = ask_script(text, rows)?;
-    let table = number_all(text, &names, rows);
+    ask_names(text, rows)?;
+    let total = ask_bounds(rows)?;
+    let names = names_of(text, rows);
+    let cells = cells_of(text, rows).list.len();
     Ok(Script {
-        rows: table,
-        len: rows.len(),
+        rows: names.number_all(rows),
         cells,
-        locals,
-        steps: total.steps,
-        readings: total.readings,
+        locals: names.list.len() - cells,
+        steps: total.steps.get(),
+        readings: total.readings.get(),
     })
 }
 
@@ -57,28 +46,28 @@ impl Script {
     pub fn new() -> Script
         ensures { rows_in result ≡ rows_of empty }
     {
-        let mut rows = [NO_ROW; 2048];
-        rows[0] = Row {
-            role: Role::MainWord,
-            place: 0,
-            len: 4,
-            value: 0,
-        };
-        rows[1] = Row {
-            role: Role::MainOpen,
-            place: 5,
-            len: 1,
-            value: 0,
-        };
-        rows[2] = Row {
-            role: Role::MainClose,
-            place: 7,
-            len: 1,
-            value: 0,
-        };
+        let rows = [
+            Row {
+                role: Role::MainWord,
+                place: 0,
+                len: 4,
+                value: 0,
+            },
+            Row {
+                role: Role::MainOpen,
+                place: 5,
+                len: 1,
+                value: 0,
+            },
+            Row {
+                role: Role::MainClose,
+                place: 7,
+                len: 1,
+                value: 0,
+            },
+        ];
         Script {
-            rows,
-            len: 3,
+            rows: Fixed::of(&rows),
             cells: 0,
             locals: 0,
             steps: 0,
@@ -99,7 +88,7 @@ impl Script {
     pub fn rows(&self) -> &[Row]
         ensures { result.now ≡ rows_in self.now }
     {
-        &self.rows[0..self.len]
+        self.rows.as_slice()
     }
 
     pub fn cells(&self) -> usize

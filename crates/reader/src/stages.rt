@@ -1,9 +1,10 @@
-// Questions 7 to 12 in their order, each put to all rows before the next.
-ghost use Rattle.std.specs.Prelude.{◌≡◌, ◌≤◌, map, length, take, None, MatchResult};
+// Questions 7 to 12, each put to all rows before the next. Text and rows are handed on as two
+// things: only names are looked up in the text, and the other questions are put to rows alone.
+ghost use Rattle.std.specs.Prelude.{◌≡◌, map, take, None, MatchResult};
 ghost use Rattle.script.specs.Names.{names};
 ghost use Rattle.script.specs.Roles.{declares_cell, those};
 ghost use Rattle.script.specs.Questions.{FirstNo};
-ghost use Rattle.reader.specs.Stages.{Parsed, Named, Counted, Unbounded, Bounded};
+ghost use Rattle.reader.specs.Stages.{Parsed, Named, Unbounded, Bounded};
 ghost use Rattle.script.specs.Faults.{fault};
 ghost use Rattle.script.specs.Nesting.{nesting};
 ghost use Rattle.script.specs.Written.{token, rows as rows_of};
@@ -11,26 +12,29 @@ ghost use Rattle.script.specs.Decode.{decode};
 
 use crate::count::Total;
 use crate::names::ask;
-use crate::names::table::{Kind, Names};
+use crate::names::roles::{declares_cell, declares_local};
+use crate::names::table::Names;
 use crate::tally::count_all;
 use script::fault::Fault;
+use script::refusal::Refusal;
 use script::row::Row;
 
 // The declared names, cells first. Past 128 there is no room, and question 7 has said no.
-pub(crate) fn names_of(rows: &[Row]) -> Names
-    ensures { take result.len result.rows ≡ take 128 (names rows.now) }
+pub(crate) fn names_of<'a>(text: &'a [u8], rows: &[Row]) -> Names<'a>
+    ensures text { result.text.now ≡ text.now }
+    ensures list { result.list.items ≡ take 128 (names rows.now) }
 {
-    let mut names = Names::none();
-    names.add(rows, Kind::Cells);
-    names.add(rows, Kind::Locals);
+    let mut names = cells_of(text, rows);
+    names.add(rows, declares_local);
     names
 }
 
-pub(crate) fn cells_of(rows: &[Row]) -> Names
-    ensures { take result.len result.rows ≡ take 128 (those declares_cell rows.now) }
+pub(crate) fn cells_of<'a>(text: &'a [u8], rows: &[Row]) -> Names<'a>
+    ensures text { result.text.now ≡ text.now }
+    ensures list { result.list.items ≡ take 128 (those declares_cell rows.now) }
 {
-    let mut cells = Names::none();
-    cells.add(rows, Kind::Cells);
+    let mut cells = Names::of(text);
+    cells.add(rows, declares_cell);
     cells
 }
 
@@ -41,17 +45,9 @@ pub(crate) fn ask_names(text: &[u8], rows: &[Row]) -> Result<(), Fault>
 {
     ask::room(rows)?;
     ask::once(text, rows)?;
-    ask::declared(text, &names_of(rows), rows)?;
-    ask::locals(text, &cells_of(rows), rows)?;
+    names_of(text, rows).declared(rows)?;
+    cells_of(text, rows).locals(rows)?;
     ask::ranges(rows)
-}
-
-// What is found out about a script beside its rows.
-pub(crate) struct Found {
-    pub(crate) names: Names,
-    pub(crate) cells: usize,
-    pub(crate) locals: usize,
-    pub(crate) total: Total,
 }
 
 // Question 12: at most 1000000 steps and at most 4096 readings.
@@ -60,26 +56,8 @@ pub(crate) fn ask_bounds(rows: &[Row]) -> Result<Total, Fault>
     ensures { MatchResult result (λ t. Bounded (decode rows.now) t.steps t.readings) (λ f. (f ≡ fault 12 0) × Unbounded (decode rows.now)) }
 {
     let total = count_all(rows);
-    if total.steps > 1_000_000 || total.readings > 4_096 {
-        return Err(Fault::new(12, 0));
+    if total.steps.get() > 1_000_000 || total.readings.get() > 4_096 {
+        return Err(Refusal::TooManySteps.at(0));
     }
     Ok(total)
-}
-
-// Questions 7 to 12.
-pub(crate) fn ask_script(text: &[u8], rows: &[Row]) -> Result<Found, Fault>
-    requires { Parsed text.now rows.now }
-    ensures { MatchResult result (λ d. Counted text.now rows.now (take d.names.len d.names.rows) d.cells d.locals d.total.steps d.total.readings) (λ f. FirstNo text.now f) }
-{
-    ask_names(text, rows)?;
-    let total = ask_bounds(rows)?;
-    let names = names_of(rows);
-    let cells = cells_of(rows).len;
-    let locals = names.len - cells;
-    Ok(Found {
-        names,
-        cells,
-        locals,
-        total,
-    })
 }

@@ -1,37 +1,20 @@
-// Question 12: how many steps and readings a script has at most, by one walk of its rows. The numbers
-// stop rising just past their limits, so that nothing overflows and the comparison is still right.
-ghost use Rattle.std.specs.Prelude.{◌≡◌, ◌+◌, ◌-◌, ◌*◌, ◌^◌, ◌<◌, ◌≤◌, min, max, [], ◌∷◌, length};
+// Question 12: how many steps and readings a script has at most, by one walk of its rows.
+ghost use Rattle.std.specs.Prelude.{◌≡◌, []};
 ghost use Rattle.reader.specs.Count.{add as add_of, multiply as multiply_of, larger as larger_of, ended as ended_of, flipped as flipped_of, does, view, enter as enter_of, leave as leave_of, flip as flip_of, more as more_of, count as count_of, acc, none};
 
-use crate::count::{Outer, Tally, Total};
+use crate::count::{Capped, Outer, Tally, Total};
+use list::fixed::Fixed;
 use script::row::{Role, Row};
-
-const MOST_STEPS: u64 = 1_000_001;
-
-const MOST_READINGS: u64 = 4_097;
-
-// The sum, or the limit where it passes it.
-fn capped_sum(a: u64, b: u64, most: u64) -> u64
-    requires { most < 2 ^ 62 }
-    ensures { result ≡ min (a + b) most }
-{
-    (a.min(most) + b.min(most)).min(most)
-}
-
-fn capped_product(n: u32, a: u64, most: u64) -> u64
-    requires { most < 2 ^ 31 }
-    ensures { result ≡ min (n * a) most }
-{
-    (n as u64 * a.min(most)).min(most)
-}
+use std::ops::Add;
 
 impl Total {
-    fn add(self, other: Total) -> Total
-        ensures { result ≡ add_of self other }
+    fn new(steps: u64, readings: u64) -> Total
+        ensures steps { result.steps ≡ steps }
+        ensures readings { result.readings ≡ readings }
     {
         Total {
-            steps: capped_sum(self.steps, other.steps, MOST_STEPS),
-            readings: capped_sum(self.readings, other.readings, MOST_READINGS),
+            steps: Capped::new(steps),
+            readings: Capped::new(readings),
         }
     }
 
@@ -40,8 +23,8 @@ impl Total {
         ensures { result ≡ multiply_of n self }
     {
         Total {
-            steps: capped_product(n, capped_sum(1, self.steps, MOST_STEPS), MOST_STEPS),
-            readings: capped_product(n, self.readings, MOST_READINGS),
+            steps: (Capped::new(1) + self.steps) * n,
+            readings: self.readings * n,
         }
     }
 
@@ -55,15 +38,35 @@ impl Total {
     }
 }
 
+impl Add for Total {
+    type Output = Total;
+
+    ghost add_gives = { λ a b sum. sum ≡ add_of a b };
+
+    fn add(self, other: Total) -> Total {
+        Total {
+            steps: self.steps + other.steps,
+            readings: self.readings + other.readings,
+        }
+    }
+}
+
+// What lies in the unused room of the stack; a derived default wants a variant with no fields.
+impl Default for Outer {
+    fn default() -> Outer {
+        Outer::First(Total::default())
+    }
+}
+
 impl Outer {
     // The count outside a block with that of the block, which ends.
     fn ended(self, here: Total) -> Total
         ensures { result ≡ ended_of self here }
     {
         match self {
-            Outer::Repeat(n, outer) => outer.add(here.multiply(n)),
-            Outer::First(outer) => outer.add(here),
-            Outer::Second(first, outer) => outer.add(first.larger(here)),
+            Outer::Repeat(n, outer) => outer + here.multiply(n),
+            Outer::First(outer) => outer + here,
+            Outer::Second(first, outer) => outer + first.larger(here),
         }
     }
 
@@ -81,35 +84,25 @@ impl Tally {
     fn none() -> Tally
         ensures { view result ≡ acc none 0 [] }
     {
-        let nothing = Total {
-            steps: 0,
-            readings: 0,
-        };
         Tally {
-            here: nothing,
+            here: Total::default(),
             times: 0,
-            outer: [Outer::First(nothing); 16],
-            depth: 0,
+            outer: Fixed::new(),
         }
     }
 
     fn more(&mut self, steps: u64, readings: u64)
         ensures { view self.new ≡ more_of steps readings (view self.old) }
     {
-        self.here = self.here.add(Total { steps, readings });
+        self.here = self.here + Total::new(steps, readings);
     }
 
     // A block begins. No script has more than 16 open, so what would not fit never comes.
     fn enter(&mut self, outer: Outer)
         ensures { view self.new ≡ enter_of outer (view self.old) }
     {
-        if self.depth < 16 {
-            self.outer[self.depth] = outer;
-            self.depth += 1;
-            self.here = Total {
-                steps: 0,
-                readings: 0,
-            };
+        if self.outer.push(outer) {
+            self.here = Total::default();
             self.times = 0;
         }
     }
@@ -117,9 +110,8 @@ impl Tally {
     fn leave(&mut self)
         ensures { view self.new ≡ leave_of (view self.old).outer (view self.old) }
     {
-        if self.depth > 0 {
-            self.depth -= 1;
-            self.here = self.outer[self.depth].ended(self.here);
+        if let Some(outer) = self.outer.pop() {
+            self.here = outer.ended(self.here);
             self.times = 0;
         }
     }
@@ -127,19 +119,13 @@ impl Tally {
     fn flip(&mut self)
         ensures { view self.new ≡ flip_of (view self.old).outer (view self.old) }
     {
-        if self.depth > 0 {
-            let top = self.depth - 1;
-            self.outer[top] = self.outer[top].flipped(self.here);
-            self.here = Total {
-                steps: 0,
-                readings: 0,
-            };
+        if let Some(outer) = self.outer.pop() {
+            self.outer.push(outer.flipped(self.here));
+            self.here = Total::default();
             self.times = 0;
         }
     }
-}
 
-impl Tally {
     // One row.
     fn step(&mut self, row: &Row)
         ensures { view self.new ≡ does row.now.role row.now.value (view self.old) }

@@ -1,21 +1,17 @@
 // Questions 7 to 11, each put to all rows, and the numbering of the names.
-ghost use Rattle.std.specs.Prelude.{◌≡◌, ◌+◌, ◌^◌, ◌<◌, ◌≤◌, not, ◌&&◌, ◌||◌, [], ◌∷◌, map, length, take, None};
+ghost use Rattle.std.specs.Prelude.{◌≡◌, ◌+◌, ◌<◌, ◌≤◌, ◌||◌, Bool, [], map, length};
+ghost use Rattle.std.specs.Fn.{FnReturnsAt};
+ghost use Rattle.script.specs.declared.row.Row.{Row};
 ghost use Rattle.script.specs.Faults.{answer};
-ghost use Rattle.script.specs.Names.{counted as counted_of, full, crowded, twice, undeclared, into_cell, out_of_range, numbered, among, no_row};
-ghost use Rattle.script.specs.Roles.{is, declares, mentions, those, first_row};
-ghost use Rattle.script.specs.declared.row.Role.TheVariants.{Target, InWord};
+ghost use Rattle.script.specs.Names.{full, crowded, twice, undeclared, into_cell, out_of_range, numbered, no_row};
+ghost use Rattle.script.specs.Roles.{declares, mentions, those, first_row};
 
 use crate::names::roles::{declares_cell, declares_local, declares_name, mentions_name};
 use crate::names::table::Names;
+use list::fixed::Fixed;
 use script::fault::Fault;
+use script::refusal::Refusal;
 use script::row::{Role, Row};
-
-fn counted(yes: bool, n: usize) -> usize
-    requires { n < 2 ^ 32 }
-    ensures { result ≡ counted_of yes n }
-{
-    if yes { n + 1 } else { n }
-}
 
 fn is_full(cells: usize, locals: usize, row: &Row) -> bool
     ensures { result ≡ full cells locals row.now }
@@ -32,19 +28,67 @@ pub(crate) fn room(rows: &[Row]) -> Result<(), Fault>
     let mut locals = 0;
     for row in rows {
         if is_full(cells, locals, row) {
-            return Err(Fault::new(7, row.place));
+            return Err(Refusal::TooManyNames.at(row.place));
         }
-        cells = counted(declares_cell(row.role), cells);
-        locals = counted(declares_local(row.role), locals);
+        cells += usize::from(declares_cell(row.role));
+        locals += usize::from(declares_local(row.role));
     }
     Ok(())
 }
 
-impl Names {
-    fn has(&self, text: &[u8], row: &Row) -> bool
-        ensures { result ≡ among text.now row.now (take self.now.len self.now.rows) }
+// 8: each name is declared once. There are at most 128 declarations, so each finds its place.
+pub(crate) fn once(text: &[u8], rows: &[Row]) -> Result<(), Fault>
+    requires { length (those declares rows.now) ≤ 128 }
+    ensures { result ≡ answer 8 (twice text.now [] rows.now) }
+{
+    let mut seen = Names::of(text);
+    for row in rows {
+        if declares_name(row.role) {
+            if seen.has(row) {
+                return Err(Refusal::DeclaredTwice.at(row.place));
+            }
+            seen.push(row);
+        }
+    }
+    Ok(())
+}
+
+// Where the first row stands that the test holds of.
+fn first_place<F: Fn(&Row) -> bool>(rows: &[Row], test: F) -> Option<usize>
+    requires { F.IsAlwaysCallable test }
+    ensures { (p : Row → Bool) → ((r : Row) (b : Bool) → FnReturnsAt F.Fn test r b → b ≡ p r) → result ≡ first_row p rows.now }
+{
+    rows.iter().find(|row| test(row)).map(|row| row.place)
+}
+
+impl<'a> Names<'a> {
+    fn lacks(&self, row: &Row) -> bool
+        ensures { result ≡ undeclared self.now.text.now self.now.list.items row.now }
     {
-        self.find(text, row) < self.len
+        mentions_name(row.role) && !self.has(row)
+    }
+
+    // 9: each name in main is among the declared ones.
+    pub(crate) fn declared(&self, rows: &[Row]) -> Result<(), Fault>
+        ensures { result ≡ answer 9 (first_row (undeclared self.now.text.now self.now.list.items) rows.now) }
+    {
+        Refusal::Undeclared.answer(first_place(rows, |row| self.lacks(row)))
+    }
+
+    // 10: each reading goes to a local, where these names are the cells.
+    pub(crate) fn locals(&self, rows: &[Row]) -> Result<(), Fault>
+        ensures { result ≡ answer 10 (into_cell self.now.text.now self.now.list.items no_row rows.now) }
+    {
+        // The row before any, as the question has it: no reading comes before a target.
+        let mut target = Row::default();
+        for row in rows {
+            if row.role == Role::Target {
+                target = *row;
+            } else if row.role == Role::InWord && self.has(&target) {
+                return Err(Refusal::ReadIntoCell.at(target.place));
+            }
+        }
+        Ok(())
     }
 }
 
@@ -62,86 +106,7 @@ fn is_out_of_range(row: &Row) -> bool
 pub(crate) fn ranges(rows: &[Row]) -> Result<(), Fault>
     ensures { result ≡ answer 11 (first_row out_of_range rows.now) }
 {
-    for row in rows {
-        if is_out_of_range(row) {
-            return Err(Fault::new(11, row.place));
-        }
-    }
-    Ok(())
-}
-
-// 9: each name in main is among the declared ones.
-fn is_undeclared(text: &[u8], names: &Names, row: &Row) -> bool
-    ensures { result ≡ undeclared text.now (take names.now.len names.now.rows) row.now }
-{
-    mentions_name(row.role) && !names.has(text, row)
-}
-
-pub(crate) fn declared(text: &[u8], names: &Names, rows: &[Row]) -> Result<(), Fault>
-    ensures { result ≡ answer 9 (first_row (undeclared text.now (take names.now.len names.now.rows)) rows.now) }
-{
-    for row in rows {
-        if is_undeclared(text, names, row) {
-            return Err(Fault::new(9, row.place));
-        }
-    }
-    Ok(())
-}
-
-// 8: each name is declared once. There are at most 128 declarations, so each finds its place.
-pub(crate) fn once(text: &[u8], rows: &[Row]) -> Result<(), Fault>
-    requires { length (those declares rows.now) ≤ 128 }
-    ensures { result ≡ answer 8 (twice text.now [] rows.now) }
-{
-    let mut seen = Names::none();
-    for row in rows {
-        if declares_name(row.role) {
-            if seen.has(text, row) {
-                return Err(Fault::new(8, row.place));
-            }
-            seen.push(*row);
-        }
-    }
-    Ok(())
-}
-
-fn is_target(role: Role) -> bool
-    ensures { result ≡ is role Target }
-{
-    matches!(role, Role::Target)
-}
-
-fn is_input(role: Role) -> bool
-    ensures { result ≡ is role InWord }
-{
-    matches!(role, Role::InWord)
-}
-
-// Whether a reading begins here into a target that is among the cells.
-fn is_into_cell(text: &[u8], cells: &Names, target: &Row, row: &Row) -> bool
-    ensures { result ≡ (is row.now.role InWord && among text.now target.now (take cells.now.len cells.now.rows)) }
-{
-    is_input(row.role) && cells.has(text, target)
-}
-
-// 10: each reading goes to a local.
-pub(crate) fn locals(text: &[u8], cells: &Names, rows: &[Row]) -> Result<(), Fault>
-    ensures { result ≡ answer 10 (into_cell text.now (take cells.now.len cells.now.rows) no_row rows.now) }
-{
-    let mut target = Row {
-        role: Role::MainWord,
-        place: 0,
-        len: 0,
-        value: 0,
-    };
-    for row in rows {
-        if is_target(row.role) {
-            target = *row;
-        } else if is_into_cell(text, cells, &target, row) {
-            return Err(Fault::new(10, target.place));
-        }
-    }
-    Ok(())
+    Refusal::OutOfRange.answer(first_place(rows, is_out_of_range))
 }
 
 fn is_name(role: Role) -> bool
@@ -150,34 +115,29 @@ fn is_name(role: Role) -> bool
     declares_name(role) || mentions_name(role)
 }
 
-// The row with the name's number, which is where it stands among the names.
-fn number_one(text: &[u8], names: &Names, row: Row) -> Row
-    ensures { result ≡ numbered text.now (take names.now.len names.now.rows) row }
-{
-    if is_name(row.role) {
-        let at = names.find(text, &row);
-        Row {
-            value: at as u32,
-            ..row
+impl<'a> Names<'a> {
+    // The row with the name's number, which is where it stands among the names.
+    fn number(&self, row: &Row) -> Row
+        ensures { result ≡ numbered self.now.text.now self.now.list.items row.now }
+    {
+        if !is_name(row.role) {
+            return *row;
         }
-    } else {
-        row
+        Row {
+            value: self.index(row) as u32,
+            ..*row
+        }
     }
-}
 
-// The rows with each name's number, in a table of their own.
-pub(crate) fn number_all(text: &[u8], names: &Names, rows: &[Row]) -> [Row; 2048]
-    requires { length rows.now ≤ 2048 }
-    ensures { take (length rows.now) result ≡ map (numbered text.now (take names.now.len names.now.rows)) rows.now }
-{
-    let mut table = [Row {
-        role: Role::MainWord,
-        place: 0,
-        len: 0,
-        value: 0,
-    }; 2048];
-    for (i, row) in rows.iter().enumerate() {
-        table[i] = number_one(text, names, *row);
+    // The rows with each name's number.
+    pub(crate) fn number_all(&self, rows: &[Row]) -> Fixed<Row, 2048>
+        requires { length rows.now ≤ 2048 }
+        ensures { result.items ≡ map (numbered self.now.text.now self.now.list.items) rows.now }
+    {
+        let mut table = Fixed::new();
+        for row in rows {
+            table.push(self.number(row));
+        }
+        table
     }
-    table
 }

@@ -1,98 +1,84 @@
 // Looking names up by their bytes.
-ghost use Rattle.std.specs.Prelude.{◌≡◌, ◌+◌, ◌<◌, ◌≤◌, min, [], ◌∷◌, ◌++◌, length, take};
-ghost use Rattle.std.specs.Str.{bytes_eq};
+ghost use Rattle.std.specs.Prelude.{◌≡◌, ◌≤◌, Bool, [], ◌∷◌, ◌++◌, take, position};
 ghost use Rattle.script.specs.Tokens.{spelled};
-ghost use Rattle.script.specs.Names.{same_name, index_of};
+ghost use Rattle.script.specs.declared.row.Role.{Role};
+ghost use Rattle.script.specs.Names.{same_name, index_of, among};
 ghost use Rattle.script.specs.Roles.{those};
-ghost use Rattle.reader.specs.Wanted.{wanted};
 
-use crate::names::roles::{declares_cell, declares_local};
-use crate::names::table::{Kind, Names};
+use crate::names::table::Names;
+use list::fixed::Fixed;
 use script::row::{Role, Row};
-
-fn is_wanted(kind: Kind, role: Role) -> bool
-    ensures { result ≡ wanted kind role }
-{
-    match kind {
-        Kind::Cells => declares_cell(role),
-        Kind::Locals => declares_local(role),
-    }
-}
 
 // The bytes of a row: what of the text lies there, where the row passes the text's end.
 fn part<'a>(text: &'a [u8], row: &Row) -> &'a [u8]
     ensures { result.now ≡ spelled text.now row.now.place row.now.len }
 {
-    let from = row.place.min(text.len());
-    let len = row.len.min(text.len() - from);
-    &text[from..from + len]
+    let rest = &text[row.place.min(text.len())..];
+    &rest[..row.len.min(rest.len())]
 }
 
-fn same_bytes(a: &[u8], b: &[u8]) -> bool
-    ensures { result ≡ bytes_eq a.now b.now }
-{
-    a == b
-}
-
-pub(crate) fn is_same_name(text: &[u8], a: &Row, b: &Row) -> bool
+fn is_same_name(text: &[u8], a: &Row, b: &Row) -> bool
     ensures { result ≡ same_name text.now a.now b.now }
 {
-    same_bytes(part(text, a), part(text, b))
+    part(text, a) == part(text, b)
 }
 
-fn find_in(text: &[u8], row: &Row, names: &[Row]) -> usize
-    ensures few { result ≤ length names.now }
-    ensures value { result ≡ index_of text.now row.now names.now }
-{
-    for (i, name) in names.iter().enumerate() {
-        if is_same_name(text, row, name) {
-            return i;
-        }
-    }
-    names.len()
-}
-
-impl Names {
-    pub(crate) fn none() -> Names
-        ensures { take result.len result.rows ≡ [] }
+impl<'a> Names<'a> {
+    // No names yet.
+    pub(crate) fn of(text: &'a [u8]) -> Names<'a>
+        ensures text { result.text.now ≡ text.now }
+        ensures none { result.list.items ≡ [] }
     {
         Names {
-            rows: [Row {
-                role: Role::MainWord,
-                place: 0,
-                len: 0,
-                value: 0,
-            }; 128],
-            len: 0,
+            text,
+            list: Fixed::new(),
         }
     }
 
     // One name more, while there is room.
-    pub(crate) fn push(&mut self, row: Row)
-        ensures { take self.new.len self.new.rows ≡ take 128 (take self.old.len self.old.rows ++ row ∷ []) }
+    pub(crate) fn push(&mut self, row: &Row)
+        ensures text { self.new.text.now ≡ self.old.text.now }
+        ensures list { self.new.list.items ≡ take 128 (self.old.list.items ++ row.now ∷ []) }
     {
-        if self.len < 128 {
-            self.rows[self.len] = row;
-            self.len += 1;
-        }
+        self.list.push(*row);
     }
 
-    // The names of the kind that the rows declare, while there is room.
-    pub(crate) fn add(&mut self, rows: &[Row], kind: Kind)
-        ensures { take self.new.len self.new.rows ≡ take 128 (take self.old.len self.old.rows ++ those (wanted kind) rows.now) }
+    // The names that the rows declare in the wanted roles, while there is room.
+    pub(crate) fn add<F: Fn(Role) -> bool>(&mut self, rows: &[Row], wanted: F)
+        requires { F.IsAlwaysCallable wanted }
+        ensures text { self.new.text.now ≡ self.old.text.now }
+        ensures list { (test : Role → Bool) → ((r : Role) (b : Bool) → F.post wanted r b → b ≡ test r) → self.new.list.items ≡ take 128 (self.old.list.items ++ those test rows.now) }
     {
         for row in rows {
-            if is_wanted(kind, row.role) {
-                self.push(*row);
+            if wanted(row.role) {
+                self.push(row);
             }
         }
     }
 
-    // Where the name stands first, or how many names there are.
-    pub(crate) fn find(&self, text: &[u8], row: &Row) -> usize
-        ensures few { result ≤ 128 }
-        ensures value { result ≡ index_of text.now row.now (take self.now.len self.now.rows) }
+    // Where the name stands first.
+    pub(crate) fn find(&self, row: &Row) -> Option<usize>
+        ensures { result ≡ position (same_name self.now.text.now row.now) self.now.list.items }
     {
-        find_in(text, row, &self.rows[0..self.len])
+        self.list
+            .as_slice()
+            .iter()
+            .position(|name| is_same_name(self.text, row, name))
+    }
+
+    #[tactic(auto, using(crate::proofs::Listing::among_found))]
+    pub(crate) fn has(&self, row: &Row) -> bool
+        ensures { result ≡ among self.now.text.now row.now self.now.list.items }
+    {
+        self.find(row).is_some()
+    }
+
+    // Its index among the names: where it stands first, or how many names there are.
+    #[tactic(auto, using(crate::proofs::Listing::index_found))]
+    pub(crate) fn index(&self, row: &Row) -> usize
+        ensures few { result ≤ 128 }
+        ensures value { result ≡ index_of self.now.text.now row.now self.now.list.items }
+    {
+        self.find(row).unwrap_or(self.list.len())
     }
 }

@@ -1,6 +1,5 @@
 // Which names a row declares or mentions.
-ghost use Rattle.std.specs.Prelude.{◌≡◌, ◌||◌};
-ghost use Rattle.script.specs.declared.row.Role.TheVariants as role;
+ghost use Rattle.std.specs.Prelude.{◌≡◌};
 ghost use Rattle.script.specs.Roles.{declares_cell, declares_local, declares, mentions};
 
 use script::row::Role;
@@ -8,7 +7,7 @@ use script::row::Role;
 pub(crate) fn declares_cell(role: Role) -> bool
     ensures { result ≡ declares_cell role }
 {
-    matches!(role, Role::CellName)
+    role == Role::CellName
 }
 
 pub(crate) fn declares_local(role: Role) -> bool

@@ -1,20 +1,13 @@
 // The table of declared names.
-ghost use Rattle.std.specs.Prelude.{◌≡◌, ◌≤◌, length};
+ghost use Rattle.std.specs.Prelude.{◌≤◌, length};
 
+use list::fixed::Fixed;
 use script::row::Row;
 
-// Which declared names are wanted.
-#[derive(Clone, Copy)]
-pub(crate) enum Kind {
-    Cells,
-    Locals,
-}
-
-// Declared names in a row: at most 64 cells and 64 locals, as question 7 has it.
+// Names in a text, by their rows: at most 64 cells and 64 locals, as question 7 has it.
 #[derive(Drop)]
-pub(crate) struct Names {
-    pub rows: [Row; 128],
-    pub len: usize,
-    ghost short: { len ≤ 128 },
-    ghost long: { length rows ≡ 128 },
+pub(crate) struct Names<'a> {
+    pub text: &'a [u8],
+    pub list: Fixed<Row, 128>,
+    ghost short: { length list.items ≤ 128 },
 }

@@ -1,18 +1,28 @@
-use Rattle.std.proofs.Common.{length, take, rules}
-use Rattle.reader.proofs.Built.{list_whole, list_nested, list_fits, list_repeats, list_small, list_cells, list_locals, list_steps, list_readings, list_holds}
+use Rattle.std.proofs.Common.{length, sym, ap, ◌∙◌}
+use Rattle.std.proofs.lemmas.Result.{err_from_is_err_and}
+use Rattle.reader.proofs.Asked.{stop_12, more_names}
+use Rattle.reader.proofs.Built.{read_script}
 use Rattle.reader.proofs.read.build.Goals as goal
+
+pub returns-in_err-total : goal.returns-in_err-total
+returns-in_err-total c =
+    let p = err_from_is_err_and c.from_residual-in_err-total.result c.from_residual-in_err-total.ensures.1 in
+    let e = c.in_err-total.ensures in
+    rw (p.1, p.2) (stop_12 c.args.text.now c.args.rows.now c.requires c.in_ok-ask_names.ensures _ e.0 e.1)
+
+pub overflow_sub-result : goal.overflow_sub-result
+overflow_sub-result c =
+    more_names c.args.text.now c.args.rows.now c.requires c.in_ok-ask_names.ensures c.len.result c.len-cells.result c.names_of-names.result.list.items
+    c.names_of-names.ensures.list (sym c.len.ensures) (c.len-cells.ensures ∙ ap length c.cells_of.ensures.list)
 
 pub invariant_of-result : goal.invariant_of-result
 invariant_of-result c =
-    let text = c.args.text.now in
-    let rs = c.args.rows.now in
-    let d = c.in_ok-names.field-0 in
-    let found = take d.names.len d.names.rows in
-    let k = c.in_ok-names.ensures in
-    let e = c.number_all-table.ensures in
-    let l = take (length rs) c.number_all-table.result in record { long = search rules; short = c.requires.few; whole = list_whole text rs found _ _ _ _ c.requires k l e; nested = list_nested text rs found _ _ _ _ c.requires k l e; fits = list_fits text rs found _ _ _ _ c.requires k l e; repeats = list_repeats text rs found _ _ _ _ c.requires k l e; small = list_small text rs found _ _ _ _ c.requires k l e; cells_are = list_cells text rs found _ _ _ _ c.requires k l e; locals_are = list_locals text rs found _ _ _ _ c.requires k l e; steps_are = list_steps text rs found _ _ _ _ c.requires k l e; readings_are = list_readings text rs found _ _ _ _ c.requires k l e; few_cells = k.cells_few; few_locals = k.locals_few; few_steps = k.steps_few; few_readings = k.readings_few }
+    let b = read_script c.args.text.now c.args.rows.now c.requires c.in_ok-ask_names.ensures _ _ _ _ _ _ _ _ c.in_ok-total.ensures c.get.ensures c.get-2.ensures
+    c.names_of-names.ensures.list c.len.ensures (c.len-cells.ensures ∙ ap length c.cells_of.ensures.list) c.names_of-names.ensures.text c.number_all.ensures in
+    record { short = b.short; whole = b.whole; nested = b.nested; fits = b.fits; repeats = b.repeats; small = b.small; cells_are = b.cells_are; locals_are = b.locals_are; steps_are = b.steps_are; readings_are = b.readings_are; few_cells = b.few_cells; few_locals = b.few_locals; few_steps = b.few_steps; few_readings = b.few_readings }
 
 pub returns : goal.returns
 returns c =
-    let d = c.in_ok-names.field-0 in
-    list_holds c.args.text.now c.args.rows.now (take d.names.len d.names.rows) _ _ _ _ c.requires c.in_ok-names.ensures (take (length c.args.rows.now) c.number_all-table.result) c.number_all-table.ensures
+    let b = read_script c.args.text.now c.args.rows.now c.requires c.in_ok-ask_names.ensures _ _ _ _ _ _ _ _ c.in_ok-total.ensures c.get.ensures c.get-2.ensures
+    c.names_of-names.ensures.list c.len.ensures (c.len-cells.ensures ∙ ap length c.cells_of.ensures.list) c.names_of-names.ensures.text c.number_all.ensures in
+    b.holds

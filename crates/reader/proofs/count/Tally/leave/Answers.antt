@@ -1,5 +1,7 @@
-use Rattle.reader.proofs.Caps.{left}
+use Rattle.reader.proofs.Caps.{none_popped}
 use Rattle.reader.proofs.count.Tally.leave.Goals as goal
 
-pub returns-then-self-gt0 : goal.returns-then-self-gt0
-returns-then-self-gt0 c = left c.args.self.now _ c.if-self-gt0.true c.ended-self.ensures
+pub returns-in_default : goal.returns-in_default
+returns-in_default c =
+    let p = none_popped _ _ _ c.pop.ensures.said c.in_default.is c.pop.ensures.list in
+    rw (p.0, p.1)

@@ -4,6 +4,9 @@ use Rattle.reader.proofs.count.Total.multiply.Goals as goal
 
 pub returns : goal.returns
 returns c =
-    let s = c.capped_product.ensures ∙ ap (λ x. min (c.args.n * x) 1000001) c.capped_sum.ensures ∙ cap_product c.args.n (1 + c.args.self.steps) 1000001 in
-    let r = c.capped_product-2.ensures in
-    λ i. record { steps = s i; readings = r i }
+    let n = c.args.n in
+    let a = c.args.self.steps in
+    let turn = c.add.ensures ∙ ap (λ x. min (x + a) 1000001) c.new.ensures in
+    let steps = c.mul.ensures ∙ ap (λ x. min (n * x) 1000001) turn ∙ cap_product n (1 + a) 1000001 in
+    let readings = c.mul-2.ensures in
+    λ i. record { steps = steps i; readings = readings i }
