@@ -1,6 +1,6 @@
 -- The rows of statements do what a pass over the statements does. Assumes nothing.
-use Rattle.std.proofs.Common.{◌≡◌, ℕ, suc, ◌+◌, ◌<◌, ◌≤◌, min, Bool, true, false, cond, not, ◌&&◌, ◌||◌, ltb, List, [], ◌∷◌, ◌++◌, length, get_or, set, Option, sym, refl, ap, ◌∙◌, subst, add-zero, arith}
-use Rattle.std.proofs.lemmas.Bool.{ltb-true, lt-ltb}
+use Rattle.std.proofs.Common.{◌≡◌, ℕ, suc, ◌+◌, ◌<◌, ◌≤◌, min, Bool, true, false, cond, not, ◌&&◌, ◌||◌, ltb, List, [], ◌∷◌, ◌++◌, length, get_or, set, Some, None, Option, sym, refl, ap, ◌∙◌, subst, add-zero, arith}
+use Rattle.std.proofs.lemmas.Bool.{and_parts, ltb-true, lt-ltb}
 use Rattle.script.specs.declared.row.Role.TheVariants as role
 use Rattle.script.specs.declared.row.Row.{Row}
 use Rattle.script.specs.declared.standing.Standing.{Standing}
@@ -10,8 +10,10 @@ use Rattle.script.specs.Written.{row, text_expr, text_names, text}
 use Rattle.script.specs.Stand.{Table, higher, both, highest, of_expr, raised, aged, reading_at, assigned, is_old, olds, fresh_of, uses_in, lesser}
 use Rattle.checker.specs.Limits.{shallow}
 use Rattle.checker.specs.Machine.{Opened, State, with_level, with_first, with_target, reads_name, lists, pushed, exceeds, run}
-use Rattle.checker.proofs.Exprs.{and_true, used_all, run_rows, all_rows, shallow_rows}
+use Rattle.checker.proofs.Exprs.{used_all, run_rows, all_rows, shallow_rows}
 use Rattle.checker.proofs.Texts.{shallow_text, shallow_listed, between_text, between_texts}
+use Rattle.checker.proofs.Order.{higher_clean, higher_assoc, both_swap}
+use Rattle.checker.proofs.Passes.{length_end}
 use Rattle.checker.proofs.Pass.{Mem, end_of, kept_of, told, rose_of, repeats, flat}
 
 -- ---- the least of the places met one by one
@@ -34,20 +36,6 @@ among_used true t x xs o = among_old (get_or t x.value Clean) x.place (olds t xs
 among_used false t x xs o = refl
 
 -- ---- expressions
-
-higher_clean : (s : Standing) → higher s Clean ≡ s
-higher_clean Clean = refl
-higher_clean Now = refl
-higher_clean Old = refl
-
-higher_assoc : (s t u : Standing) → higher (higher s t) u ≡ higher s (higher t u)
-higher_assoc Clean t u = refl
-higher_assoc Now Clean u = refl
-higher_assoc Now Now Clean = refl
-higher_assoc Now Now Now = refl
-higher_assoc Now Now Old = refl
-higher_assoc Now Old u = refl
-higher_assoc Old t u = refl
 
 abbrev pub marked_by : List Bool → ℕ → Bool
 marked_by fs x = get_or fs x false
@@ -117,7 +105,7 @@ push_is f fs d h s = let lt : length fs < 16 = omega (arith, ltb-true d 16 s) in
 
 -- the state between two statements
 abbrev pub at : List Bool → Bool → List Opened → Table → List Table → ℕ → Bool → Option ℕ → State
-at fs i stack t es n r o = record { table = t; fresh = fs; target = 128; level = Clean; inside = i; stack = stack; entries = es; number = n; rose = r; first = o }
+at fs i stack t es n r o = record { table = t; fresh = fs; target = None; level = Clean; inside = i; stack = stack; entries = es; number = n; rose = r; first = o }
 
 -- where one more repeat is to come, the number of the next is below 512
 next_is : (n r : ℕ) → n + (1 + r) ≤ 512 → min (n + 1) 512 ≡ n + 1
@@ -147,7 +135,7 @@ pub block : (b : Block) (rs : List Row) (fs : List Bool) (i : Bool) (stack : Lis
     ≡ run rs (at fs i stack (end_of i (code b) m t) (B (flat (code b) (kept_of i (code b) m t) z)) (n + repeats (code b)) (rose_of i (code b) m t r) (among (told (marked_by fs) i (code b) m t) o))
 block done rs fs i stack d B n m z t r o h s p c = ap (λ n'. run rs (at fs i stack t (B z) n' r o)) (sym (add-zero n))
 block (assign x q e w k) rs fs i stack d B n m z t r o h s p c =
-    run_expr e (row role.SetEnd w ∷ text k rs) (with_target x.value (at fs i stack t (B (flat (code k) m z)) n r o))
+    run_expr e (row role.SetEnd w ∷ text k rs) (with_target (Some x.value) (at fs i stack t (B (flat (code k) m z)) n r o))
     ∙ block k rs fs i stack d B n m z (set t x.value (of_expr t e)) r (among (olds t (uses_in (marked_by fs) e)) o) h (shallow_rows e d (row role.SetEnd w ∷ text k rs) s) p c
     ∙ (λ j. run rs (at fs i stack (end_of i (code k) m (set t x.value (of_expr t e))) (B (flat (code k) (kept_of i (code k) m (set t x.value (of_expr t e))) z)) (n + repeats (code k)) (rose_of i (code k) m (set t x.value (of_expr t e)) r)
     (sym (among_++ (olds t (uses_in (marked_by fs) e)) (told (marked_by fs) i (code k) m (set t x.value (of_expr t e))) o) j)))
@@ -165,7 +153,7 @@ block (when w e o' a y k) rs fs i stack d B n m z t r o h s p c =
     let qa : Bool = rose_of i (code a) m.0 t r in
     let v : Table = raised (of_expr t e) (assigned (code a) []) (both ea t) in
     let tk : List ℕ = told (marked_by fs) i (code k) m.2 v in
-    let sh = and_true (ltb d 16) (shallow (suc d) A) (shallow_rows e d (row role.ThenOpen o' ∷ A) s) in
+    let sh = and_parts (ltb d 16) (shallow (suc d) A) (shallow_rows e d (row role.ThenOpen o' ∷ A) s) in
     let num : n + ra + repeats (code k) ≡ n + (ra + (0 + repeats (code k))) = omega arith in
     run_expr e (row role.ThenOpen o' ∷ A) (at fs i stack t (B (flat (code a) m.0 (flat (code k) m.2 z))) n r o)
     ∙ (λ j. run A (at fs i (push_is f stack d h sh.0 j) t (B (flat (code a) m.0 (flat (code k) m.2 z))) n r o₁))
@@ -194,15 +182,15 @@ block (either w e o' a y w' o'' b y' k) rs fs i stack d B n m z t r o h s p c =
     let qb : Bool = rose_of i (code b) m.1 t qa in
     let v : Table = raised (of_expr t e) (assigned (code a) (assigned (code b) [])) (both ea eb) in
     let tk : List ℕ = told (marked_by fs) i (code k) m.2 v in
-    let sh = and_true (ltb d 16) (shallow (suc d) A) (shallow_rows e d (row role.ThenOpen o' ∷ A) s) in
-    let sh₂ = and_true (ltb d 16) (shallow (suc d) (text b R₂)) (shallow_text a (suc d) R sh.1) in
+    let sh = and_parts (ltb d 16) (shallow (suc d) A) (shallow_rows e d (row role.ThenOpen o' ∷ A) s) in
+    let sh₂ = and_parts (ltb d 16) (shallow (suc d) (text b R₂)) (shallow_text a (suc d) R sh.1) in
     let num : n + ra + rb + repeats (code k) ≡ n + (ra + (rb + repeats (code k))) = omega arith in
     run_expr e (row role.ThenOpen o' ∷ A) (at fs i stack t (B (flat (code a) m.0 (flat (code b) m.1 (flat (code k) m.2 z)))) n r o)
     ∙ (λ j. run A (at fs i (push_is f stack d h sh.0 j) t (B (flat (code a) m.0 (flat (code b) m.1 (flat (code k) m.2 z)))) n r o₁))
     ∙ block a R fs i (f ∷ stack) (suc d) B n m.0 (flat (code b) m.1 (flat (code k) m.2 z)) t r o₁ (omega arith) sh.1 p (omega arith)
     ∙ (λ j. run (text b R₂) (at fs i (push_is g stack d h sh.0 j) t (B (flat (code a) ka (flat (code b) m.1 (flat (code k) m.2 z)))) (n + ra) qa (among ta o₁)))
     ∙ block b R₂ fs i (g ∷ stack) (suc d) (λ x. B (flat (code a) ka x)) (n + ra) m.1 (flat (code k) m.2 z) t qa (among ta o₁) (omega arith) sh₂.1 (pre_flat (code a) ka B n p) (omega arith)
-    ∙ (λ j. run (text k rs) (at fs i stack (raised (of_expr t e) (between_texts a y w' o'' b R₂ j) (both ea eb)) (B (flat (code a) ka (flat (code b) kb (flat (code k) m.2 z)))) (n + ra + rb) qb (among tb (among ta o₁))))
+    ∙ (λ j. run (text k rs) (at fs i stack (raised (of_expr t e) (between_texts a y w' o'' b R₂ j) (both_swap eb ea (length_end i (code b) m.1 t ∙ sym (length_end i (code a) m.0 t)) j)) (B (flat (code a) ka (flat (code b) kb (flat (code k) m.2 z)))) (n + ra + rb) qb (among tb (among ta o₁))))
     ∙ block k rs fs i stack d (λ x. B (flat (code a) ka (flat (code b) kb x))) (n + ra + rb) m.2 z v qb (among tb (among ta o₁)) h (shallow_text b (suc d) R₂ sh₂.1)
     (pre_flat (code b) kb (λ x. B (flat (code a) ka x)) (n + ra) (pre_flat (code a) ka B n p)) (omega arith)
     ∙ (λ j. run rs (at fs i stack (end_of i (code k) m.2 v) (B (flat (code a) ka (flat (code b) kb (flat (code k) (kept_of i (code k) m.2 v) z)))) (num j) (rose_of i (code k) m.2 v qb)
@@ -220,7 +208,7 @@ block (loop w l o' b y k) rs fs i stack d B n m z t r o h s p c =
     let tb : List ℕ = told (marked_by fs) i (code b) m.1 v in
     let qb : Bool = rose_of i (code b) m.1 v q₀ in
     let tk : List ℕ = told (marked_by fs) i (code k) m.2 u in
-    let sh = and_true (ltb d 16) (shallow (suc d) A) s in
+    let sh = and_parts (ltb d 16) (shallow (suc d) A) s in
     let num : n + 1 + rb + repeats (code k) ≡ n + (1 + (rb + repeats (code k))) = omega arith in
     ap (run A) (entered fs i (f ∷ stack) B n m.0 (flat (code b) m.1 X) t r o (min (n + 1) 512) (pushed f stack) p (push_is f stack d h sh.0) (next_is n (rb + repeats (code k)) c))
     ∙ block b R fs i (f ∷ stack) (suc d) (λ x. B (v ∷ x)) (n + 1) m.1 X v q₀ o (omega arith) sh.1 (pre_cons B n v p) (omega arith)
@@ -240,7 +228,7 @@ block (atomic w o' b y k) rs fs i stack d B n m z t r o h s p c =
     let tb : List ℕ = told (marked_by fs) true (code b) m.0 v in
     let qb : Bool = rose_of true (code b) m.0 v r in
     let tk : List ℕ = told (marked_by fs) i (code k) m.1 u in
-    let sh = and_true (ltb d 16) (shallow (suc d) A) s in
+    let sh = and_parts (ltb d 16) (shallow (suc d) A) s in
     let num : n + rb + repeats (code k) ≡ n + (rb + repeats (code k)) = omega arith in
     (λ j. run A (at fs true (push_is f stack d h sh.0 j) v (B (flat (code b) m.0 (flat (code k) m.1 z))) n r o))
     ∙ block b R fs true (f ∷ stack) (suc d) B n m.0 (flat (code k) m.1 z) v r o (omega arith) sh.1 p (omega arith)

@@ -1,16 +1,15 @@
 -- Names apart from all readings stand clean throughout. Assumes nothing.
-use Rattle.std.proofs.Common.{◌≡◌, ℕ, zero, suc, ◌*◌, Bool, true, false, cond, not, List, [], ◌∷◌, map, length, get_or, set, replicate, sym, refl, ap, ◌∙◌, subst, ⊎_elim, arith}
+use Rattle.std.proofs.Common.{◌≡◌, ℕ, ◌*◌, Bool, true, false, cond, not, List, [], ◌∷◌, map, length, get_or, set, replicate, sym, refl, ap, ◌∙◌, subst, ⊎_elim, arith}
 use lib.ListN.{length-replicate}
 use Rattle.std.proofs.lemmas.List.{get_or-set_same, get_or-set_other, get_or-replicate, get_or_past, set_past, get_or-map, length-map}
 use Rattle.std.proofs.lemmas.Bool.{true≢false, cases_eq, cases_lt, or_left, or_right}
 use Rattle.script.specs.declared.standing.Standing.{Standing}
 use Rattle.script.specs.declared.standing.Standing.TheVariants.{Clean}
 use Rattle.script.specs.Syntax.{Leaf, reads, Code, nothing, put, read, fork, turns, region, uses}
-use Rattle.script.specs.Stand.{Table, higher, both, highest, of_expr, raised, older, aged, assigned, climb, walk, is_old, olds, uses_in, walks, refused}
+use Rattle.script.specs.Stand.{Table, higher, both, highest, of_expr, raised, older, aged, assigned, walk, is_old, olds, uses_in, walks, refused}
 use Rattle.checker.specs.Apart.{AllApart, some_apart, Apart}
-use Rattle.checker.proofs.Order.{length_both, climb_none, climb_more, walks_none, walks_more}
+use Rattle.checker.proofs.Order.{length_both, none_of, climb_keeps, walks_empty}
 use Rattle.checker.proofs.Tables.{getD_both}
-use Rattle.checker.proofs.Inside.{none_of}
 
 module _ (apart : ℕ → Bool) where
   abbrev Pure : Table → Type 0
@@ -48,20 +47,12 @@ module _ (apart : ℕ → Bool) where
       (cases_lt y (length t))
   pure_aged false t p y a = p y a
 
-  pure_climb : (n : ℕ) (f : Table → Table) → ((t : Table) → Pure t → Pure (f t)) → (t : Table) → Pure t → Pure (climb n f t)
-  pure_climb zero f h t p = subst Pure (sym (climb_none f t)) p
-  pure_climb (suc n) f h t p = subst Pure (sym (climb_more n f t)) (pure_climb n f h (both t (f t)) (pure_both t (f t) p (h t p)))
-
   pure_one : (s : Standing) (p : ℕ) (ps : List ℕ) → s ≡ Clean → cond (is_old s) (p ∷ ps) ps ≡ ps
   pure_one s p ps h = ap (λ z. cond (is_old z) (p ∷ ps) ps) h
 
   pure_olds : (t : Table) (xs : List Leaf) → AllApart apart xs → Pure t → olds t xs ≡ []
   pure_olds t [] h p = refl
   pure_olds t (x ∷ xs) h p = pure_one (get_or t x.value Clean) x.place (olds t xs) (p x.value h.0) ∙ pure_olds t xs h.1 p
-
-  pure_walks : (n : ℕ) (f : Table → Table) (g : Table → List ℕ) → ((t : Table) → Pure t → Pure (f t)) → ((t : Table) → Pure t → g t ≡ []) → (t : Table) → Pure t → walks n f g t ≡ []
-  pure_walks zero f g h o t p = walks_none f g t ∙ o t p
-  pure_walks (suc n) f g h o t p = walks_more n f g t ∙ none_of (g t) _ (o t p) (pure_walks n f g h o (both t (f t)) (pure_both t (f t) p (h t p)))
 
   module _ (marked : ℕ → Bool) where
     pure_walk : (k : Code) (inside : Bool) (t : Table) → Apart apart marked k → Pure t → Pure (walk inside k t)
@@ -71,7 +62,7 @@ module _ (apart : ℕ → Bool) where
     pure_walk (fork e a b k) i t h p =
         pure_walk k i _ h.4 (pure_raised (of_expr t e) (assigned a (assigned b [])) _ (λ q. pure_highest t (reads e []) (h.0 q) p) (pure_both (walk i a t) (walk i b t) (pure_walk a i t h.2 p) (pure_walk b i t h.3 p)))
     pure_walk (turns n b k) i t h p =
-        pure_walk k i _ h.1 (pure_walk b i _ h.0 (pure_climb (2 * length t) (walk i b) (λ u q. pure_walk b i u h.0 q) t p))
+        pure_walk k i _ h.1 (pure_walk b i _ h.0 (climb_keeps Pure pure_both (walk i b) (λ u q. pure_walk b i u h.0 q) (2 * length t) t p))
     pure_walk (region b k) i t h p = pure_walk k i _ h.1 (pure_aged (not i) _ (pure_walk b true _ h.0 (pure_aged (not i) t p)))
     pure_walk (uses xs k) i t h p = pure_walk k i t h.1 p
 
@@ -87,8 +78,8 @@ module _ (apart : ℕ → Bool) where
         (pure_refused k i _ h.4 (pure_raised (of_expr t e) (assigned a (assigned b [])) _ (λ q. pure_highest t (reads e []) (h.0 q) p) (pure_both (walk i a t) (walk i b t) (pure_walk a i t h.2 p) (pure_walk b i t h.3 p))))))
     pure_refused (turns n b k) i t h p =
         none_of (walks (2 * length t) (walk i b) (refused marked i b) t) _
-        (pure_walks (2 * length t) (walk i b) (refused marked i b) (λ u q. pure_walk b i u h.0 q) (λ u q. pure_refused b i u h.0 q) t p)
-        (pure_refused k i _ h.1 (pure_walk b i _ h.0 (pure_climb (2 * length t) (walk i b) (λ u q. pure_walk b i u h.0 q) t p)))
+        (walks_empty Pure pure_both (walk i b) (λ u q. pure_walk b i u h.0 q) (refused marked i b) (λ u q. pure_refused b i u h.0 q) (2 * length t) t p)
+        (pure_refused k i _ h.1 (pure_walk b i _ h.0 (climb_keeps Pure pure_both (walk i b) (λ u q. pure_walk b i u h.0 q) (2 * length t) t p)))
     pure_refused (region b k) i t h p =
         none_of (refused marked true b (aged (not i) t)) _ (pure_refused b true _ h.0 (pure_aged (not i) t p))
         (pure_refused k i _ h.1 (pure_aged (not i) _ (pure_walk b true _ h.0 (pure_aged (not i) t p))))

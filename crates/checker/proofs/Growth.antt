@@ -1,24 +1,15 @@
 -- A pass that raises an entry raises the sum of the ranks of all entries, which is bounded. Assumes nothing.
-use Rattle.std.proofs.Common.{◌≡◌, ℕ, ◌+◌, ◌*◌, ◌<◌, ◌≤◌, Bool, true, false, not, ◌||◌, ltb, ◌⊎◌, [], ◌∷◌, length, sym, refl, ◌∙◌, inl, inr, ⊎_elim, arith, length-set}
-use Rattle.std.proofs.lemmas.Bool.{true≢false}
+use Rattle.std.proofs.Common.{◌≡◌, ℕ, ◌+◌, ◌*◌, ◌<◌, ◌≤◌, Bool, true, false, not, ◌||◌, ltb, ◌⊎◌, [], ◌∷◌, length, sym, refl, ap, ◌∙◌, inl, inr, ⊎_elim, arith, length-set}
+use Rattle.std.proofs.lemmas.Bool.{true≢false, ltb-true, ltb-false, or_parts, or_cases}
 use Rattle.script.specs.declared.standing.Standing.{Standing}
-use Rattle.script.specs.declared.standing.Standing.TheVariants.{Clean, Now, Old}
 use Rattle.script.specs.Syntax.{Code, nothing, put, read, fork, turns, region, uses}
 use Rattle.script.specs.Stand.{Table, higher, both, of_expr, raised, aged, assigned, settle, walk}
 use Rattle.checker.specs.Order.{rank, Le}
 use Rattle.checker.specs.Machine.{exceeds}
-use Rattle.checker.proofs.Order.{total, total_le, both_left, both_right, length_both, length_raised, length_aged, length_climb}
+use Rattle.checker.proofs.Order.{rank_higher, one_rank, both_swap, total, total_le, both_left, both_right, length_both, length_raised, length_aged, length_climb}
 use Rattle.checker.proofs.Mono.{le_long, body}
 use Rattle.checker.proofs.Pass.{Mem, end_of, kept_of, rose_of, repeats}
 use Rattle.checker.proofs.Passes.{Under, length_end}
-
-or_true : (a b : Bool) → (a || b) ≡ true → (a ≡ true) ⊎ (b ≡ true)
-or_true true b h = inl refl
-or_true false b h = inr h
-
-or_false : (a b : Bool) → (a || b) ≡ false → (a ≡ false) × (b ≡ false)
-or_false true b h = absurd (true≢false h)
-or_false false b h = (refl, h)
 
 pub le_total : (t u : Table) → Le t u → total t ≤ total u
 le_total [] [] p = omega arith
@@ -26,42 +17,15 @@ le_total [] (u ∷ us) p = absurd p
 le_total (t ∷ ts) [] p = absurd p
 le_total (t ∷ ts) (u ∷ us) p = omega (arith, p.0, le_total ts us p.1)
 
-still : (s u : Standing) → ltb (rank s) (rank u) ≡ false → (higher s u ≡ s) × (higher u s ≡ s)
-still Clean Clean h = (refl, refl)
-still Clean Now h = absurd (true≢false h)
-still Clean Old h = absurd (true≢false h)
-still Now Clean h = (refl, refl)
-still Now Now h = (refl, refl)
-still Now Old h = absurd (true≢false h)
-still Old Clean h = (refl, refl)
-still Old Now h = (refl, refl)
-still Old Old h = (refl, refl)
+still : (s u : Standing) → ltb (rank s) (rank u) ≡ false → higher s u ≡ s
+still s u h = one_rank (higher s u) s (omega (arith, ltb-false (rank s) (rank u) h, rank_higher s u))
 
-up : (s u : Standing) → ltb (rank s) (rank u) ≡ true → (rank s < rank (higher s u)) × (rank s < rank (higher u s))
-up Clean Clean h = absurd (true≢false (sym h))
-up Clean Now h = (omega arith, omega arith)
-up Clean Old h = (omega arith, omega arith)
-up Now Clean h = absurd (true≢false (sym h))
-up Now Now h = absurd (true≢false (sym h))
-up Now Old h = (omega arith, omega arith)
-up Old Clean h = absurd (true≢false (sym h))
-up Old Now h = absurd (true≢false (sym h))
-up Old Old h = absurd (true≢false (sym h))
-
-pub both_still : (t u : Table) → exceeds t u ≡ false → both t u ≡ t
+both_still : (t u : Table) → exceeds t u ≡ false → both t u ≡ t
 both_still [] us h = refl
 both_still (t ∷ ts) [] h = refl
 both_still (t ∷ ts) (u ∷ us) h =
-    let p = or_false (ltb (rank t) (rank u)) (exceeds ts us) h in
-    λ i. (still t u p.0).0 i ∷ both_still ts us p.1 i
-
-both_still' : (t u : Table) → length t ≡ length u → exceeds t u ≡ false → both u t ≡ t
-both_still' [] [] l h = refl
-both_still' [] (u ∷ us) l h = absurd (omega arith)
-both_still' (t ∷ ts) [] l h = absurd (omega arith)
-both_still' (t ∷ ts) (u ∷ us) l h =
-    let p = or_false (ltb (rank t) (rank u)) (exceeds ts us) h in
-    λ i. (still t u p.0).1 i ∷ both_still' ts us (omega arith) p.1 i
+    let p = or_parts (ltb (rank t) (rank u)) (exceeds ts us) h in
+    λ i. still t u p.0 i ∷ both_still ts us p.1 i
 
 both_up : (t u : Table) → exceeds t u ≡ true → total t < total (both t u)
 both_up [] us h = absurd (true≢false (sym h))
@@ -69,19 +33,16 @@ both_up (t ∷ ts) [] h = absurd (true≢false (sym h))
 both_up (t ∷ ts) (u ∷ us) h =
     let l = both_left (t ∷ ts) (u ∷ us) in
     ⊎_elim
-    (λ a. omega (arith, (up t u a).0, le_total ts (both ts us) l.1))
+    (λ a. omega (arith, ltb-true (rank t) (rank u) a, rank_higher t u, le_total ts (both ts us) l.1))
     (λ a. omega (arith, l.0, both_up ts us a))
-    (or_true (ltb (rank t) (rank u)) (exceeds ts us) h)
+    (or_cases (ltb (rank t) (rank u)) (exceeds ts us) h)
 
-both_up' : (t u : Table) → length t ≡ length u → exceeds t u ≡ true → total t < total (both u t)
-both_up' [] us l h = absurd (true≢false (sym h))
-both_up' (t ∷ ts) [] l h = absurd (true≢false (sym h))
-both_up' (t ∷ ts) (u ∷ us) l h =
-    let r = both_right (u ∷ us) (t ∷ ts) (sym l) in
-    ⊎_elim
-    (λ a. omega (arith, (up t u a).1, le_total ts (both us ts) r.1))
-    (λ a. omega (arith, r.0, both_up' ts us (omega arith) a))
-    (or_true (ltb (rank t) (rank u)) (exceeds ts us) h)
+-- the same with the entry first
+entry_still : (t u : Table) → length t ≡ length u → exceeds t u ≡ false → both u t ≡ t
+entry_still t u l h = both_swap u t (sym l) ∙ both_still t u h
+
+entry_up : (t u : Table) → length t ≡ length u → exceeds t u ≡ true → total t < total (both u t)
+entry_up t u l h = omega (arith, both_up t u h, ap total (both_swap t u l))
 
 -- ---- the entries of a pass
 
@@ -181,11 +142,11 @@ rose_total n i (turns _ b k) m t r h l e =
     ⊎_elim
     (λ e₁. ⊎_elim
     (λ e₂. ⊎_elim
-    (λ e₃. ⊎_elim (λ e₄. inl e₄) (λ x. inr (omega (arith, a₁, a₂, p, q, both_up' m.0 t (l.0 ∙ sym h) x))) (or_true r (exceeds m.0 t) e₃))
+    (λ e₃. ⊎_elim (λ e₄. inl e₄) (λ x. inr (omega (arith, a₁, a₂, p, q, entry_up m.0 t (l.0 ∙ sym h) x))) (or_cases r (exceeds m.0 t) e₃))
     (λ lt. inr (omega (arith, a₁, a₂, p, q, lt)))
     (rose_total n i b m.1 v _ vl l.1 e₂))
     (λ x. inr (omega (arith, a₁, a₂, p, q, both_up v u x)))
-    (or_true (rose_of i b m.1 v (r || exceeds m.0 t)) (exceeds v u) e₁))
+    (or_cases (rose_of i b m.1 v (r || exceeds m.0 t)) (exceeds v u) e₁))
     (λ lt. inr (omega (arith, a₁, a₂, p, q, lt)))
     (rose_total n i k m.2 u _ ul l.2 e)
 rose_total n i (region b k) m t r h l e =
@@ -219,10 +180,10 @@ rose_none n i (turns _ b k) m t r h l e =
     let vl : length v ≡ n = length_both t m.0 ∙ h in
     let ul : length u ≡ n = length_end i b m.1 v ∙ vl in
     let p = rose_none n i k m.2 u _ ul l.2 e in
-    let o = or_false (rose_of i b m.1 v (r || exceeds m.0 t)) (exceeds v u) p.0 in
+    let o = or_parts (rose_of i b m.1 v (r || exceeds m.0 t)) (exceeds v u) p.0 in
     let q = rose_none n i b m.1 v _ vl l.1 o.0 in
-    let s = or_false r (exceeds m.0 t) q.0 in
-    (s.0, λ j. ((both_still v u o.1 ∙ both_still' m.0 t (l.0 ∙ sym h) s.1) j, q.1 j, p.1 j))
+    let s = or_parts r (exceeds m.0 t) q.0 in
+    (s.0, λ j. ((both_still v u o.1 ∙ entry_still m.0 t (l.0 ∙ sym h) s.1) j, q.1 j, p.1 j))
 rose_none n i (region b k) m t r h l e =
     let g : Table = aged (not i) t in
     let gl : length g ≡ n = length_aged (not i) t ∙ h in

@@ -9,8 +9,8 @@ pub mod Texts
 pub mod Blocks
 pub mod Whole
 pub mod Tables
-pub mod Stacks
 pub mod Clean
 pub mod Cases
 pub mod Within
 pub mod Accepting
+pub mod Stacks

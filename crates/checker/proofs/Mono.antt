@@ -1,5 +1,6 @@
 -- A higher table refuses no fewer uses, so the last walk of a repeat tells. Assumes nothing.
 use Rattle.std.proofs.Common.{◌≡◌, ℕ, zero, suc, ◌*◌, ◌≤◌, Bool, true, false, cond, not, ◌⊎◌, List, [], ◌∷◌, ◌++◌, map, length, get_or, Some, None, Option, sym, refl, ap, ◌∙◌, subst, inl, inr, ⊎_elim, arith}
+use Rattle.std.proofs.lemmas.Bool.{cases_lt}
 use Rattle.script.specs.Syntax.{Leaf, reads, Code, nothing, put, read, fork, turns, region, uses}
 use Rattle.script.specs.declared.standing.Standing.{Standing}
 use Rattle.script.specs.declared.standing.Standing.TheVariants.{Clean, Now, Old}
@@ -200,14 +201,9 @@ Least (Some m) xs = In m xs × ((p : ℕ) → In p xs → m ≤ p)
 pub lesser_least : (x : ℕ) (o : Option ℕ) (xs : List ℕ) → Least o xs → Least (lesser x o) (x ∷ xs)
 lesser_least x None xs h = (inl refl, λ p i. ⊎_elim (λ e. omega (arith, e)) (λ j. absurd (h p j)) i)
 lesser_least x (Some m) xs h = (
-  elim (le_cases x m) [ inl a ↦ inl (omega (arith, a)) | inr a ↦ inr (subst (λ y. In y xs) (omega (arith, a)) h.0) ],
+  elim (cases_lt x m) [ inl a ↦ inl (omega (arith, a)) | inr a ↦ inr (subst (λ y. In y xs) (omega (arith, a)) h.0) ],
   λ p i. ⊎_elim (λ e. omega (arith, e)) (λ j. let k = h.1 p j in omega (arith, k)) i,
 )
-  where
-    le_cases : (a b : ℕ) → (a ≤ b) ⊎ (b ≤ a)
-    le_cases zero b = inl (omega arith)
-    le_cases (suc a) zero = inr (omega arith)
-    le_cases (suc a) (suc b) = ⊎_elim (λ h. inl (omega (arith, h))) (λ h. inr (omega (arith, h))) (le_cases a b)
 
 pub least_is : (xs : List ℕ) → Least (least xs) xs
 least_is [] = λ p i. i

@@ -1,6 +1,7 @@
 -- The order of tables, and that a settled table does not rise. Assumes nothing.
-use Rattle.std.proofs.Common.{◌≡◌, ℕ, zero, suc, ◌+◌, ◌*◌, ◌<◌, ◌≤◌, Bool, true, false, not, ◌⊎◌, List, [], ◌∷◌, ◌++◌, length, get_or, set, sym, refl, ap, ◌∙◌, subst, inl, inr, ⊎_elim, arith, length-set}
+use Rattle.std.proofs.Common.{◌≡◌, ℕ, zero, suc, ◌+◌, ◌*◌, ◌<◌, ◌≤◌, max, Bool, true, false, not, ◌⊎◌, List, [], ◌∷◌, ◌++◌, length, get_or, set, sym, refl, ap, ◌∙◌, subst, inl, inr, ⊎_elim, arith, length-set}
 use Rattle.std.proofs.lemmas.List.{length-map}
+use Rattle.std.proofs.lemmas.Bool.{cases_lt}
 use Rattle.script.specs.Syntax.{Code, nothing, put, read, fork, turns, region, uses}
 use Rattle.script.specs.declared.standing.Standing.{Standing}
 use Rattle.script.specs.declared.standing.Standing.TheVariants.{Clean, Now, Old}
@@ -22,28 +23,41 @@ le_trans (t ∷ ts) [] v p q = absurd p
 le_trans (t ∷ ts) (u ∷ us) [] p q = absurd q
 le_trans (t ∷ ts) (u ∷ us) (v ∷ vs) p q = (omega arith, le_trans ts us vs p.1 q.1)
 
+-- the higher of two has the higher rank, and no two have one rank: so `omega` tells of `higher` what it tells of `max`
+pub rank_higher : (s u : Standing) → rank (higher s u) ≡ max (rank s) (rank u)
+rank_higher Clean u = omega arith
+rank_higher Now Clean = refl
+rank_higher Now Now = refl
+rank_higher Now Old = refl
+rank_higher Old Clean = refl
+rank_higher Old Now = refl
+rank_higher Old Old = refl
+
+pub one_rank : (s u : Standing) → rank s ≡ rank u → s ≡ u
+one_rank Clean Clean e = refl
+one_rank Clean Now e = absurd (omega arith)
+one_rank Clean Old e = absurd (omega arith)
+one_rank Now Clean e = absurd (omega arith)
+one_rank Now Now e = refl
+one_rank Now Old e = absurd (omega arith)
+one_rank Old Clean e = absurd (omega arith)
+one_rank Old Now e = absurd (omega arith)
+one_rank Old Old e = refl
+
 pub rank_left : (s u : Standing) → rank s ≤ rank (higher s u)
-rank_left Clean u = omega arith
-rank_left Now Clean = omega arith
-rank_left Now Now = omega arith
-rank_left Now Old = omega arith
-rank_left Old u = omega arith
+rank_left s u = omega (arith, rank_higher s u)
 
 pub rank_right : (s u : Standing) → rank u ≤ rank (higher s u)
-rank_right Clean u = omega arith
-rank_right Now Clean = omega arith
-rank_right Now Now = omega arith
-rank_right Now Old = omega arith
-rank_right Old Clean = omega arith
-rank_right Old Now = omega arith
-rank_right Old Old = omega arith
+rank_right s u = omega (arith, rank_higher s u)
 
 pub rank_least : (s u v : Standing) → rank s ≤ rank v → rank u ≤ rank v → rank (higher s u) ≤ rank v
-rank_least Clean u v p q = q
-rank_least Now Clean v p q = p
-rank_least Now Now v p q = p
-rank_least Now Old v p q = q
-rank_least Old u v p q = p
+rank_least s u v p q = omega (arith, rank_higher s u)
+
+pub higher_clean : (s : Standing) → higher s Clean ≡ s
+higher_clean s = one_rank (higher s Clean) s (omega (arith, rank_higher s Clean))
+
+pub higher_assoc : (s t u : Standing) → higher (higher s t) u ≡ higher s (higher t u)
+higher_assoc s t u = one_rank _ _ (omega (arith, rank_higher (higher s t) u, rank_higher s t, rank_higher s (higher t u), rank_higher t u))
 
 pub both_left : (t u : Table) → Le t (both t u)
 both_left [] us = tt
@@ -112,16 +126,21 @@ length_walk inside (turns n b k) t = length_walk inside k _ ∙ length_walk insi
 length_walk inside (region b k) t = length_walk inside k _ ∙ length_aged (not inside) _ ∙ length_walk true b _ ∙ length_aged (not inside) t
 length_walk inside (uses xs k) t = length_walk inside k t
 
+-- ---- either table first
+
+higher_swap : (s u : Standing) → higher s u ≡ higher u s
+higher_swap s u = one_rank _ _ (omega (arith, rank_higher s u, rank_higher u s))
+
+pub both_swap : (t u : Table) → length t ≡ length u → both t u ≡ both u t
+both_swap [] [] l = refl
+both_swap [] (u ∷ us) l = absurd (omega arith)
+both_swap (t ∷ ts) [] l = absurd (omega arith)
+both_swap (t ∷ ts) (u ∷ us) l = λ i. higher_swap t u i ∷ both_swap ts us (omega arith) i
+
 -- ---- a settled table does not rise
 
 pub rise : (s u : Standing) → (higher s u ≡ s) ⊎ (rank s < rank (higher s u))
-rise Clean Clean = inl refl
-rise Clean Now = inr (omega arith)
-rise Clean Old = inr (omega arith)
-rise Now Clean = inl refl
-rise Now Now = inl refl
-rise Now Old = inr (omega arith)
-rise Old u = inl refl
+rise s u = ⊎_elim (λ lt. inr (omega (arith, rank_higher s u))) (λ le. inl (one_rank (higher s u) s (omega (arith, rank_higher s u)))) (cases_lt (rank s) (rank u))
 
 pub rises : (t u : Table) → (both t u ≡ t) ⊎ (total t < total (both t u))
 rises [] us = inl refl
@@ -176,11 +195,14 @@ settle_end inside b t =
 
 pub empty_left : {A : Type 0} (xs ys : List A) → xs ++ ys ≡ [] → xs ≡ []
 empty_left [] ys e = refl
-empty_left (x ∷ xs) ys e = absurd (let z : ◌≡◌ {A = ℕ} 0 1 = cc in omega arith)
+empty_left (x ∷ xs) ys e = cc
 
 pub empty_right : {A : Type 0} (xs ys : List A) → xs ++ ys ≡ [] → ys ≡ []
 empty_right [] ys e = e
-empty_right (x ∷ xs) ys e = absurd (let z : ◌≡◌ {A = ℕ} 0 1 = cc in omega arith)
+empty_right (x ∷ xs) ys e = cc
+
+pub none_of : {A : Type 0} (xs ys : List A) → xs ≡ [] → ys ≡ [] → xs ++ ys ≡ []
+none_of xs ys p q = ap (λ z. z ++ ys) p ∙ q
 
 pub walks_none : (f : Table → Table) (g : Table → List ℕ) (t : Table) → walks 0 f g t ≡ g t
 unfolding walks
@@ -195,3 +217,13 @@ pub last_walk : (n : ℕ) (f : Table → Table) (g : Table → List ℕ) (t : Ta
 last_walk zero f g t e = ap g (climb_none f t) ∙ sym (walks_none f g t) ∙ e
 last_walk (suc n) f g t e =
     ap g (climb_more n f t) ∙ last_walk n f g (both t (f t)) (empty_right (g t) (walks n f g (both t (f t))) (sym (walks_more n f g t) ∙ e))
+
+-- what the higher of two tables and the body keep, all turns keep; where no such table is refused, no turn refuses
+module _ (P : Table → Type 0) (keeps : (t u : Table) → P t → P u → P (both t u)) (f : Table → Table) (body : (t : Table) → P t → P (f t)) where
+  pub climb_keeps : (n : ℕ) (t : Table) → P t → P (climb n f t)
+  climb_keeps zero t p = subst P (sym (climb_none f t)) p
+  climb_keeps (suc n) t p = subst P (sym (climb_more n f t)) (climb_keeps n (both t (f t)) (keeps t (f t) p (body t p)))
+
+  pub walks_empty : (g : Table → List ℕ) → ((t : Table) → P t → g t ≡ []) → (n : ℕ) (t : Table) → P t → walks n f g t ≡ []
+  walks_empty g o zero t p = walks_none f g t ∙ o t p
+  walks_empty g o (suc n) t p = walks_more n f g t ∙ none_of (g t) _ (o t p) (walks_empty g o n (both t (f t)) (keeps t (f t) p (body t p)))

@@ -1,33 +1,19 @@
 -- Passes until no entry rises come to what the nested walks come to. Assumes nothing.
-use Rattle.std.proofs.Common.{◌≡◌, ℕ, zero, suc, ◌*◌, ◌≤◌, Bool, true, not, [], ◌∷◌, ◌++◌, length, set, replicate, sym, refl, ap, ◌∙◌, subst, arith, length-set}
-use Rattle.script.specs.declared.standing.Standing.{Standing}
-use Rattle.script.specs.declared.standing.Standing.TheVariants.{Clean, Now, Old}
+use Rattle.std.proofs.Common.{◌≡◌, ℕ, zero, suc, ◌*◌, Bool, true, not, [], ◌∷◌, ◌++◌, length, set, replicate, sym, refl, ap, ◌∙◌, subst, arith, length-set}
+use Rattle.script.specs.declared.standing.Standing.TheVariants.{Clean}
 use Rattle.script.specs.Syntax.{reads, Code, nothing, put, read, fork, turns, region, uses}
 use Rattle.script.specs.Stand.{Table, both, of_expr, raised, aged, reading_at, assigned, settle, walk, olds, uses_in}
-use Rattle.checker.specs.Order.{rank, Le}
+use Rattle.checker.specs.Order.{Le}
 use Rattle.checker.specs.Last.{refused_last}
-use Rattle.checker.proofs.Order.{le_refl, le_trans, both_left, both_right, le_set, length_both, length_raised, length_aged, length_climb, settled, settle_up}
+use Rattle.checker.proofs.Order.{one_rank, le_refl, le_trans, both_left, both_right, le_set, length_both, length_raised, length_aged, length_climb, settled, settle_up}
 use Rattle.checker.proofs.Mono.{both_least, both_mono, highest_mono, raised_mono, le_aged, climb_least, body}
 use Rattle.checker.proofs.Pass.{Mem, end_of, kept_of, told}
-
-abbrev unrank : ℕ → Standing
-unrank zero = Clean
-unrank (suc zero) = Now
-unrank (suc (suc n)) = Old
-
-unrank_rank : (s : Standing) → unrank (rank s) ≡ s
-unrank_rank Clean = refl
-unrank_rank Now = refl
-unrank_rank Old = refl
-
-rank_same : (s u : Standing) → rank s ≤ rank u → rank u ≤ rank s → s ≡ u
-rank_same s u p q = let e : rank s ≡ rank u = omega arith in sym (unrank_rank s) ∙ ap unrank e ∙ unrank_rank u
 
 pub le_antisym : (t u : Table) → Le t u → Le u t → t ≡ u
 le_antisym [] [] p q = refl
 le_antisym [] (u ∷ us) p q = absurd p
 le_antisym (t ∷ ts) [] p q = absurd p
-le_antisym (t ∷ ts) (u ∷ us) p q = λ i. rank_same t u p.0 q.0 i ∷ le_antisym ts us p.1 q.1 i
+le_antisym (t ∷ ts) (u ∷ us) p q = λ i. one_rank t u (omega (arith, p.0, q.0)) i ∷ le_antisym ts us p.1 q.1 i
 
 pub length_end : (i : Bool) (k : Code) (m : Mem k) (t : Table) → length (end_of i k m t) ≡ length t
 length_end i nothing m t = refl

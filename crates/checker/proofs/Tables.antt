@@ -1,13 +1,11 @@
 -- Loops over a table of standings. Assumes nothing.
-use Rattle.std.proofs.Common.{◌≡◌, ℕ, zero, suc, ◌+◌, ◌<◌, ◌≤◌, true, false, ltb, ◌≢◌, [], ◌∷◌, map, length, get_or, set, sym, refl, ap, ◌∙◌, ⊎_elim, arith, length-set}
+use Rattle.std.proofs.Common.{◌≡◌, ℕ, zero, suc, ◌+◌, ◌<◌, ◌≤◌, ◌≢◌, [], ◌∷◌, map, length, get_or, set, sym, refl, ap, ◌∙◌, ⊎_elim, arith, length-set}
 use Rattle.std.proofs.lemmas.List.{ext_get_or, get_or-set_same, get_or-set_other, get_or-map, length-map}
-use Rattle.std.proofs.lemmas.Bool.{cases_eq, or_left, or_right, or_from}
+use Rattle.std.proofs.lemmas.Bool.{cases_eq}
 use Rattle.script.specs.declared.standing.Standing.{Standing}
-use Rattle.script.specs.declared.standing.Standing.TheVariants.{Clean, Now, Old}
+use Rattle.script.specs.declared.standing.Standing.TheVariants.{Clean}
 use Rattle.script.specs.Stand.{Table, higher, both, older}
-use Rattle.checker.specs.Order.{rank}
-use Rattle.checker.specs.Machine.{exceeds}
-use Rattle.checker.proofs.Order.{length_both}
+use Rattle.checker.proofs.Order.{higher_clean, length_both}
 
 -- the entries of t below i are g's, and the others t₀'s
 pub record Partly (g : ℕ → Standing) (t₀ t : Table) (i : ℕ) : Type 0 where
@@ -31,11 +29,6 @@ partly_more g t₀ t i v p lt e = record {
 pub partly_all : (g : ℕ → Standing) (t₀ t w : Table) (i : ℕ) → Partly g t₀ t i → length t₀ ≤ i → length w ≡ length t₀ → ((k : ℕ) → k < length t₀ → get_or w k Clean ≡ g k) → t ≡ w
 partly_all g t₀ t w i p h long is = ext_get_or Clean t w (p.long ∙ sym long) (λ k lt. p.done k (omega (arith, p.long)) ∙ sym (is k (omega (arith, p.long))))
 
-higher_clean : (s : Standing) → higher s Clean ≡ s
-higher_clean Clean = refl
-higher_clean Now = refl
-higher_clean Old = refl
-
 pub getD_both : (t u : Table) (k : ℕ) → k < length t → get_or (both t u) k Clean ≡ higher (get_or t k Clean) (get_or u k Clean)
 getD_both [] us k h = absurd (omega arith)
 getD_both (t ∷ ts) [] k h = sym (higher_clean (get_or (t ∷ ts) k Clean))
@@ -47,16 +40,3 @@ both_all t₀ t u i p h = partly_all _ t₀ t (both t₀ u) i p h (length_both t
 
 pub older_all : (t₀ t : Table) (i : ℕ) → Partly (λ k. older (get_or t₀ k Clean)) t₀ t i → length t₀ ≤ i → t ≡ map older t₀
 older_all t₀ t i p h = partly_all _ t₀ t (map older t₀) i p h (length-map t₀ older) (λ k lt. get_or-map older t₀ k Clean Clean lt)
-
--- ---- one table above another
-
-pub exceeds_at : (t u : Table) (k : ℕ) → k < length t → k < length u → ltb (rank (get_or t k Clean)) (rank (get_or u k Clean)) ≡ true → exceeds t u ≡ true
-exceeds_at [] us k h l e = absurd (omega arith)
-exceeds_at (t ∷ ts) [] k h l e = absurd (omega arith)
-exceeds_at (t ∷ ts) (u ∷ us) zero h l e = or_left (ltb (rank t) (rank u)) (exceeds ts us) e
-exceeds_at (t ∷ ts) (u ∷ us) (suc k) h l e = or_right (ltb (rank t) (rank u)) (exceeds ts us) (exceeds_at ts us k (omega arith) (omega arith) e)
-
-pub exceeds_none : (t u : Table) → ((k : ℕ) → k < length t → ltb (rank (get_or t k Clean)) (rank (get_or u k Clean)) ≡ false) → exceeds t u ≡ false
-exceeds_none [] us h = refl
-exceeds_none (t ∷ ts) [] h = refl
-exceeds_none (t ∷ ts) (u ∷ us) h = or_from (ltb (rank t) (rank u)) (exceeds ts us) (h 0 (omega arith)) (exceeds_none ts us (λ k l. h (suc k) (omega arith)))

@@ -1,6 +1,7 @@
 -- How the rows of statements are written: what they set, how deep and how long they are. Assumes nothing.
 use Rattle.std.proofs.Common.{◌≡◌, ℕ, suc, ◌+◌, ◌-◌, ◌*◌, ◌≤◌, true, ltb, List, [], ◌∷◌, ◌++◌, length, refl, ap, ◌∙◌, arith, length-append}
 use Rattle.std.proofs.lemmas.List.{take_at}
+use Rattle.std.proofs.lemmas.Bool.{and_parts}
 use Rattle.script.specs.declared.row.Role.TheVariants as role
 use Rattle.script.specs.declared.row.Row.{Row}
 use Rattle.script.specs.Syntax.{Leaf, Names, no_name, comma, Block, done, assign, reading, when, either, loop, atomic, together, code}
@@ -8,7 +9,7 @@ use Rattle.script.specs.Written.{row, text_expr, text_names, text}
 use Rattle.script.specs.Stand.{assigned}
 use Rattle.checker.specs.Limits.{shallow}
 use Rattle.checker.specs.Machine.{targets, set_between}
-use Rattle.checker.proofs.Exprs.{and_true, targets_rows, app_rows, shallow_rows, length_rows}
+use Rattle.checker.proofs.Exprs.{targets_rows, app_rows, shallow_rows, length_rows}
 use Rattle.checker.proofs.Pass.{repeats}
 
 targets_names : (xs : Names) (rs : List Row) → targets (text_names xs rs) ≡ targets rs
@@ -64,13 +65,13 @@ shallow_text (assign x q e z k) d rs h = shallow_text k d rs (shallow_rows e d (
 shallow_text (reading x q i c z k) d rs h = shallow_text k d rs h
 shallow_text (when i e o a c k) d rs h =
     let A = row role.WhenClose c ∷ text k rs in
-    shallow_text k d rs (shallow_text a (suc d) A (and_true (ltb d 16) _ (shallow_rows e d (row role.ThenOpen o ∷ text a A) h)).1)
+    shallow_text k d rs (shallow_text a (suc d) A (and_parts (ltb d 16) _ (shallow_rows e d (row role.ThenOpen o ∷ text a A) h)).1)
 shallow_text (either i e o a c w o' b c' k) d rs h =
     let B = row role.ElseClose c' ∷ text k rs in
     let A = row role.ThenClose c ∷ row role.ElseWord w ∷ row role.ElseOpen o' ∷ text b B in
-    shallow_text k d rs (shallow_text b (suc d) B (and_true (ltb d 16) _ (shallow_text a (suc d) A (and_true (ltb d 16) _ (shallow_rows e d (row role.ThenOpen o ∷ text a A) h)).1)).1)
-shallow_text (loop r n o b c k) d rs h = shallow_text k d rs (shallow_text b (suc d) (row role.BodyClose c ∷ text k rs) (and_true (ltb d 16) _ h).1)
-shallow_text (atomic a o b c k) d rs h = shallow_text k d rs (shallow_text b (suc d) (row role.RegionClose c ∷ text k rs) (and_true (ltb d 16) _ h).1)
+    shallow_text k d rs (shallow_text b (suc d) B (and_parts (ltb d 16) _ (shallow_text a (suc d) A (and_parts (ltb d 16) _ (shallow_rows e d (row role.ThenOpen o ∷ text a A) h)).1)).1)
+shallow_text (loop r n o b c k) d rs h = shallow_text k d rs (shallow_text b (suc d) (row role.BodyClose c ∷ text k rs) (and_parts (ltb d 16) _ h).1)
+shallow_text (atomic a o b c k) d rs h = shallow_text k d rs (shallow_text b (suc d) (row role.RegionClose c ∷ text k rs) (and_parts (ltb d 16) _ h).1)
 shallow_text (together t x xs z k) d rs h = shallow_text k d rs (shallow_names xs d (row role.TogetherEnd z ∷ text k rs) h)
 
 pub shallow_listed : (xs : Names) (d : ℕ) (rs : List Row) → shallow d (text_names xs rs) ≡ true → shallow d rs ≡ true

@@ -2,7 +2,8 @@
 use Rattle.std.proofs.Common.{◌≡◌, ℕ, suc, ◌+◌, ◌-◌, ◌<◌, ◌≤◌, Bool, true, false, ◌||◌, eqb, ltb, List, [], ◌∷◌, length, get_or, set, replicate, Some, None, Option, sym, refl, ap, ◌∙◌, subst, ⊎_elim, arith, length-set}
 use lib.ListN.{length-replicate}
 use Rattle.std.proofs.lemmas.List.{get_or-set_same, get_or-set_other, get_or-replicate, get_or_past}
-use Rattle.std.proofs.lemmas.Bool.{true≢false, ltb-true, eq-eqb, ne_eqb, cases_eq, cases_lt}
+use Rattle.std.proofs.Math.Bool.{or_assoc, or-true, or-false}
+use Rattle.std.proofs.lemmas.Bool.{true≢false, and_parts, ltb-true, eq-eqb, ne_eqb, cases_eq, cases_lt}
 use Rattle.script.specs.declared.row.Role.TheVariants as role
 use Rattle.script.specs.declared.row.Row.{Row}
 use Rattle.script.specs.declared.standing.Standing.TheVariants.{Clean}
@@ -13,7 +14,6 @@ use Rattle.checker.specs.Limits.{shallow, numbered}
 use Rattle.checker.specs.Machine.{State, with_fresh, run, begun}
 use Rattle.checker.proofs.Order.{le_refl}
 use Rattle.checker.proofs.Mono.{last_walks_tell}
-use Rattle.checker.proofs.Exprs.{and_true}
 use Rattle.checker.proofs.Texts.{length_text}
 use Rattle.checker.proofs.Pass.{Mem, end_of, kept_of, told, rose_of, repeats, flat}
 use Rattle.checker.proofs.Passes.{Under, below, exact, clean_mem, clean_under}
@@ -36,31 +36,19 @@ run_decls (minus_cell w x q m n z ds) rs st = run_decls ds rs st
 run_decls (var w x z ds) rs st = run_decls ds rs st
 run_decls (fresh w x z ds) rs st = run_decls ds rs (with_fresh (set st.fresh x.value true) st)
 
-or_assoc : (a b c : Bool) → ((a || b) || c) ≡ (a || (b || c))
-or_assoc true b c = refl
-or_assoc false b c = refl
-
-or_true : (a : Bool) → (a || true) ≡ true
-or_true true = refl
-or_true false = refl
-
-or_false : (a : Bool) → (a || false) ≡ a
-or_false true = refl
-or_false false = refl
-
 mark_one : (fs : List Bool) (y x : ℕ) → y < length fs → get_or (set fs y true) x false ≡ (get_or fs x false || eqb y x)
 mark_one fs y x lt = ⊎_elim
-    (λ (e : x ≡ y). ap (λ z. get_or (set fs y true) z false) e ∙ get_or-set_same fs y true false lt ∙ sym (or_true (get_or fs x false)) ∙ ap (λ b. get_or fs x false || b) (sym (eq-eqb y x (sym e))))
-    (λ (ne : x ≡ y → ⊥). get_or-set_other fs y x true false ne ∙ sym (or_false (get_or fs x false)) ∙ ap (λ b. get_or fs x false || b) (sym (ne_eqb y x (λ e. ne (sym e)))))
+    (λ (e : x ≡ y). ap (λ z. get_or (set fs y true) z false) e ∙ get_or-set_same fs y true false lt ∙ sym (or-true (get_or fs x false)) ∙ ap (λ b. get_or fs x false || b) (sym (eq-eqb y x (sym e))))
+    (λ (ne : x ≡ y → ⊥). get_or-set_other fs y x true false ne ∙ sym (or-false (get_or fs x false)) ∙ ap (λ b. get_or fs x false || b) (sym (ne_eqb y x (λ e. ne (sym e)))))
     (cases_eq x y)
 
 marks_is : (ds : Decls) (rs : List Row) (fs : List Bool) → length fs ≡ 128 → numbered (text_decls ds rs) ≡ true → (x : ℕ) → get_or (marks_of ds fs) x false ≡ (get_or fs x false || fresh_in ds x)
-marks_is no_decl rs fs l h x = sym (or_false (get_or fs x false))
+marks_is no_decl rs fs l h x = sym (or-false (get_or fs x false))
 marks_is (cell w y q n z ds) rs fs l h x = marks_is ds rs fs l h x
 marks_is (minus_cell w y q m n z ds) rs fs l h x = marks_is ds rs fs l h x
 marks_is (var w y z ds) rs fs l h x = marks_is ds rs fs l h x
 marks_is (fresh w y z ds) rs fs l h x =
-    let p = and_true (ltb y.value 128) (numbered (text_decls ds rs)) h in
+    let p = and_parts (ltb y.value 128) (numbered (text_decls ds rs)) h in
     marks_is ds rs (set fs y.value true) (length-set fs y.value true ∙ l) p.1 x
     ∙ ap (λ b. b || fresh_in ds x) (mark_one fs y.value x (omega (arith, ltb-true y.value 128 p.0)))
     ∙ or_assoc (get_or fs x false) (eqb y.value x) (fresh_in ds x)
@@ -128,7 +116,7 @@ pass_is : (s : Script) → Small s → (m : Mem (said s)) (z : List Table) → r
 pass_is s h m z =
     let R : List Row = row role.MainClose s.close ∷ [] in
     let deep : shallow 0 (row role.MainWord s.word ∷ row role.MainOpen s.open' ∷ text s.main R) ≡ true = shallow_decls s.decls 0 _ h.deep in
-    let inner : shallow 1 (text s.main R) ≡ true = (and_true (ltb 0 16) _ deep).1 in
+    let inner : shallow 1 (text s.main R) ≡ true = (and_parts (ltb 0 16) _ deep).1 in
     run_decls s.decls _ (begun (flat (said s) m z))
     ∙ block s.main R (marks_in s) false [] 1 (λ xs. xs) 0 m z clean false None (omega arith) inner pre_none (omega (arith, few s h))
 

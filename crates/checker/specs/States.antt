@@ -1,5 +1,5 @@
 -- The state that the check's struct stands for. Assumes nothing.
-use Rattle.std.specs.Prelude.{◌≡◌, ℕ, List, [], ◌∷◌, map, reverse, take, drop, Some, None, Option}
+use Rattle.std.specs.Prelude.{◌≡◌, ℕ, List, [], ◌∷◌, map, reverse, drop, Some, None, Option, slice_index_or}
 use Rattle.script.specs.declared.row.Row.{Row}
 use Rattle.script.specs.Stand.{Table}
 use Rattle.checker.specs.declared.types.Standings.{Standings}
@@ -11,8 +11,9 @@ use Rattle.checker.specs.Machine.{Opened, State, with_stack}
 abbrev pub frame_of : List Row → Frame → Opened
 frame_of all f = record { table = f.table.of; level = f.level; from = drop f.from all; number = f.number; inside = f.inside }
 
-abbrev pub frames_of : List Row → ℕ → List Frame → List Opened
-frames_of all d fs = map (frame_of all) (reverse (take d fs))
+-- the last frame is on top
+abbrev pub frames_of : List Row → List Frame → List Opened
+frames_of all fs = map (frame_of all) (reverse fs)
 
 abbrev pub tables : List Standings → List Table
 tables es = map (λ e. e.of) es
@@ -25,12 +26,28 @@ state_of all c = record {
   target = c.target;
   level = c.level;
   inside = c.inside;
-  stack = frames_of all c.depth c.frames;
+  stack = frames_of all c.frames.items;
   entries = tables c.entries;
   number = c.number;
   rose = c.rose;
   first = c.first;
 }
+
+-- over the rows `all`, the check d is c with f done to its state
+abbrev pub MovesOver : List Row → Check → Check → (State → State) → Type 0
+MovesOver all c d f = state_of all d ≡ f (state_of all c)
+
+-- whatever the rows are
+abbrev pub Moves : Check → Check → (State → State) → Type 0
+Moves c d f = (all : List Row) → MovesOver all c d f
+
+-- f is told the rows from `from` on
+abbrev pub MovesBehind : ℕ → Check → Check → (List Row → State → State) → Type 0
+MovesBehind from c d f = (all : List Row) → MovesOver all c d (f (drop from all))
+
+-- the entry of a repeat, and the table where there is none
+abbrev pub entry_at : Check → ℕ → Table
+entry_at c n = slice_index_or (tables c.entries) n c.table.of
 
 -- c had the frame r on top, and is d without it
 abbrev pub Popped : Check → Option Frame → Check → Type 0

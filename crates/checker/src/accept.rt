@@ -11,6 +11,7 @@ use crate::accepted::Accepted;
 use crate::first::first_refused;
 use reader::drive::Script;
 use script::fault::Fault;
+use script::refusal::Refusal;
 
 // The place of the first use in the text that stands old.
 fn refused_use(script: &Script) -> Option<usize>
@@ -39,13 +40,9 @@ impl Accepted {
         ensures last_walks { LastWalksTell }
         ensures after { MatchResult result (λ _. self.new.script ≡ script.now) (λ _. self.new ≡ self.old) }
     {
-        match refused_use(script) {
-            Some(place) => Err(Fault::new(13, place)),
-            None => {
-                *self = Accepted { script: *script };
-                Ok(())
-            }
-        }
+        Refusal::StaleUse.answer(refused_use(script))?;
+        *self = Accepted { script: *script };
+        Ok(())
     }
 
     // All thirteen questions, put to a text: replaces the accepted script by the one that the text is, or

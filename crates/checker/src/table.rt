@@ -1,30 +1,20 @@
 // A table of standings: what a row does to it.
-ghost use Rattle.std.specs.Prelude.{◌≡◌, replicate, nat_lt, slice_index_or, slice_set};
+ghost use Rattle.std.specs.Prelude.{◌≡◌, true, replicate, slice_index_or, slice_set};
 ghost use Rattle.script.specs.declared.standing.Standing.TheVariants.{Clean};
-ghost use Rattle.script.specs.Stand.{higher, both, older, aged, reading_at, is_old};
-ghost use Rattle.checker.specs.Order.{rank};
-ghost use Rattle.checker.specs.Machine.{exceeds};
+ghost use Rattle.script.specs.Stand.{both, older, aged, raised, reading_at};
+ghost use Rattle.checker.specs.Machine.{exceeds, targets};
 
 use crate::types::Standings;
+use list::slots::set_at;
+use script::row::{Role, Row};
 use script::standing::Standing;
-
-pub(crate) fn higher_of(a: Standing, b: Standing) -> Standing
-    ensures { result ≡ higher a b }
-{
-    match (a, b) {
-        (Standing::Clean, _) => b,
-        (Standing::Now, Standing::Old) => Standing::Old,
-        (Standing::Now, _) => Standing::Now,
-        (Standing::Old, _) => Standing::Old,
-    }
-}
 
 pub(crate) fn older_of(a: Standing) -> Standing
     ensures { result ≡ older a }
 {
     match a {
         Standing::Clean => Standing::Clean,
-        _ => Standing::Old,
+        Standing::Now | Standing::Old => Standing::Old,
     }
 }
 
@@ -35,71 +25,57 @@ pub(crate) fn reading_at(inside: bool) -> Standing
     if inside { Standing::Now } else { Standing::Old }
 }
 
-pub(crate) fn is_old(a: Standing) -> bool
-    ensures { result ≡ is_old a }
-{
-    match a {
-        Standing::Old => true,
-        _ => false,
-    }
-}
+impl Default for Standings {
+    ghost is_default = { λ t. t.of ≡ replicate 128 Clean };
 
-fn is_below(a: Standing, b: Standing) -> bool
-    ensures { result ≡ nat_lt (rank a) (rank b) }
-{
-    match (a, b) {
-        (Standing::Clean, Standing::Clean) => false,
-        (Standing::Clean, _) => true,
-        (Standing::Now, Standing::Old) => true,
-        (Standing::Now, _) => false,
-        (Standing::Old, _) => false,
-    }
-}
-
-impl Standings {
-    pub(crate) fn clean() -> Standings
-        ensures { result.of ≡ replicate 128 Clean }
-    {
+    fn default() -> Standings {
         Standings {
             of: [Standing::Clean; 128],
         }
     }
+}
 
+impl Standings {
     pub(crate) fn get(&self, name: usize) -> Standing
         ensures { result ≡ slice_index_or self.now.of name Clean }
     {
-        if name < 128 {
-            self.of[name]
-        } else {
-            Standing::Clean
-        }
+        self.of.get(name).copied().unwrap_or_default()
     }
 
     pub(crate) fn put(&mut self, name: usize, s: Standing)
         ensures { self.new.of ≡ slice_set self.old.of name s }
     {
-        if name < 128 {
-            self.of[name] = s;
-        }
+        set_at(&mut self.of, name, s);
     }
 
-    // Opening and closing an outermost region turns now into old.
-    pub(crate) fn age(&mut self, outermost: bool)
-        ensures { self.new.of ≡ aged outermost self.old.of }
+    // The names that the rows set stand at least as high as s.
+    pub(crate) fn raise(&mut self, rows: &[Row], s: Standing)
+        ensures { self.new.of ≡ raised s (targets rows.now) self.old.of }
     {
-        if outermost {
-            for i in 0..128 {
-                self.of[i] = older_of(self.of[i]);
+        for row in rows {
+            if row.role == Role::Target {
+                let name = row.value as usize;
+                self.put(name, self.get(name).max(s));
             }
         }
     }
 
-    // Takes the higher of both, name by name.
+    // Opening and closing an outermost region turns now into old.
+    pub(crate) fn age(&mut self)
+        ensures { self.new.of ≡ aged true self.old.of }
+    {
+        for s in self.of.iter_mut() {
+            *s = older_of(*s);
+        }
+    }
+
+    // Takes the higher of both, name by name. The index is for the proof, which knows nothing of what was
+    // written through `iter_mut().zip(..)`.
     pub(crate) fn join(&mut self, with: &Standings)
         ensures { self.new.of ≡ both self.old.of with.now.of }
     {
-        for i in 0..128 {
-            self.of[i] = higher_of(self.of[i], with.of[i]);
+        for (name, s) in self.of.iter_mut().enumerate() {
+            *s = (*s).max(with.of[name]);
         }
     }
 
@@ -107,11 +83,6 @@ impl Standings {
     pub(crate) fn is_exceeded(&self, by: &Standings) -> bool
         ensures { result ≡ exceeds self.now.of by.now.of }
     {
-        for i in 0..128 {
-            if is_below(self.of[i], by.of[i]) {
-                return true;
-            }
-        }
-        false
+        self.of.iter().zip(&by.of).any(|(here, there)| here < there)
     }
 }

@@ -1,6 +1,7 @@
 // What the check keeps while it walks the rows.
 ghost use Rattle.std.specs.Prelude.{◌≡◌, ◌≤◌, length};
 
+use list::fixed::Fixed;
 use script::standing::Standing;
 
 // One standing for each name, at the name's number.
@@ -12,7 +13,7 @@ pub struct Standings {
 
 // What is kept of where a brace opened: the table there, the condition's standing, the row behind the
 // brace, the number of the next repeat, and whether it stood in a region.
-#[derive(Clone, Copy)]
+#[derive(Clone, Copy, Default)]
 pub struct Frame {
     pub table: Standings,
     pub level: Standing,
@@ -21,23 +22,18 @@ pub struct Frame {
     pub inside: bool,
 }
 
-// The walk of one pass, and the repeats' entries, which last from pass to pass. A target of 128 is none.
+// The walk of one pass, and the repeats' entries, which last from pass to pass.
 #[derive(Drop)]
 pub struct Check {
     pub table: Standings,
     pub fresh: [bool; 128],
-    pub target: usize,
+    pub target: Option<usize>,
     pub level: Standing,
     pub inside: bool,
-    pub frames: [Frame; 16],
-    pub depth: usize,
+    pub frames: Fixed<Frame, 16>,
     pub entries: [Standings; 512],
     pub number: usize,
     pub rose: bool,
     pub first: Option<usize>,
-    ghost flags: { length fresh ≡ 128 },
-    ghost room: { length frames ≡ 16 },
-    ghost places: { length entries ≡ 512 },
-    ghost bounded: { depth ≤ 16 },
     ghost counted: { number ≤ 512 },
 }

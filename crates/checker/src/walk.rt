@@ -1,45 +1,29 @@
 // What each row does to the check.
-ghost use Rattle.std.specs.Prelude.{◌≡◌, ◌+◌, ◌<◌, false, List, length, drop, replicate, slice_index_or, slice_set};
+ghost use Rattle.std.specs.Prelude.{◌≡◌, false, true, List, ◌∷◌, ◌++◌, replicate, slice_index_or};
 ghost use Rattle.script.specs.declared.row.Row.{Row as RowOf};
 ghost use Rattle.script.specs.declared.standing.Standing.TheVariants.{Clean};
-ghost use Rattle.script.specs.Stand.{higher, lesser};
-ghost use Rattle.checker.specs.Machine.{with_table, noted, marks, aims, reads_name, lists, reads_channel, sets, step, run, begun};
-ghost use Rattle.checker.specs.States.{tables, state_of};
+ghost use Rattle.checker.specs.Machine.{noted, reads_name, lists, sets, step, run, begun};
+ghost use Rattle.checker.specs.States.{tables, state_of, Moves, MovesOver};
 
-use crate::table::{higher_of, is_old, reading_at};
-use crate::types::{Check, Frame, Standings};
+use crate::table::reading_at;
+use crate::types::{Check, Standings};
+use list::fixed::Fixed;
+use list::slots::set_at;
 use script::row::{Role, Row};
 use script::standing::Standing;
-
-fn lesser_of(place: usize, first: Option<usize>) -> Option<usize>
-    ensures { result ≡ lesser place first }
-{
-    match first {
-        None => Some(place),
-        Some(q) => Some(if place < q { place } else { q }),
-    }
-}
 
 impl Check {
     pub(crate) fn new() -> Check
         ensures { tables result.entries ≡ replicate 512 (replicate 128 Clean) }
     {
-        let clean = Standings::clean();
-        let frame = Frame {
-            table: clean,
-            level: Standing::Clean,
-            from: 0,
-            number: 0,
-            inside: false,
-        };
+        let clean = Standings::default();
         Check {
             table: clean,
             fresh: [false; 128],
-            target: 128,
+            target: None,
             level: Standing::Clean,
             inside: false,
-            frames: [frame; 16],
-            depth: 0,
+            frames: Fixed::new(),
             entries: [clean; 512],
             number: 0,
             rose: false,
@@ -47,109 +31,83 @@ impl Check {
         }
     }
 
-    // Before the first row only the entries are kept.
+    // Before the first row only the entries are kept. They are 64 KiB, which a new `Check` around them would
+    // copy in each pass, so the other parts are set one by one.
     fn begin(&mut self)
         ensures { (all : List RowOf) → state_of all self.new ≡ begun (tables self.old.entries) }
     {
-        let none = [false; 128];
-        self.table = Standings::clean();
-        self.fresh = none;
-        self.target = 128;
+        self.table = Standings::default();
+        self.fresh = [false; 128];
+        self.target = None;
         self.level = Standing::Clean;
         self.inside = false;
-        self.depth = 0;
+        self.frames = Fixed::new();
         self.number = 0;
         self.rose = false;
         self.first = None;
     }
 
-    // The name stands at least as high as s.
-    pub(crate) fn raise(&mut self, name: usize, s: Standing)
-        ensures { (all : List RowOf) → state_of all self.new ≡ with_table (slice_set self.old.table.of name (higher (slice_index_or self.old.table.of name Clean) s)) (state_of all self.old) }
-    {
-        let was = self.table.get(name);
-        self.table.put(name, higher_of(was, s));
-    }
-
     // Keeps the place of a use that stands old, unless an earlier place is kept.
-    fn note(&mut self, used: bool, s: Standing, place: usize)
-        ensures { (all : List RowOf) → state_of all self.new ≡ noted used s place (state_of all self.old) }
+    fn note(&mut self, s: Standing, place: usize)
+        ensures { Moves self.old self.new (noted true s place) }
     {
-        if used && is_old(s) {
-            self.first = lesser_of(place, self.first);
+        if s == Standing::Old {
+            self.first = Some(self.first.map_or(place, |first| place.min(first)));
         }
     }
 
     fn is_fresh(&self, name: usize) -> bool
         ensures { result ≡ slice_index_or self.now.fresh name false }
     {
-        if name < 128 { self.fresh[name] } else { false }
-    }
-
-    fn mark(&mut self, r: Row)
-        ensures { (all : List RowOf) → state_of all self.new ≡ marks r (state_of all self.old) }
-    {
-        let name = r.value as usize;
-        if name < 128 {
-            self.fresh[name] = true;
-        }
-    }
-
-    fn aim(&mut self, r: Row)
-        ensures { (all : List RowOf) → state_of all self.new ≡ aims r (state_of all self.old) }
-    {
-        self.target = r.value as usize;
+        self.fresh.get(name).copied().unwrap_or(false)
     }
 
     fn read_name(&mut self, r: Row)
-        ensures { (all : List RowOf) → state_of all self.new ≡ reads_name r (state_of all self.old) }
+        ensures { Moves self.old self.new (reads_name r) }
     {
-        let s = self.table.get(r.value as usize);
-        let used = self.is_fresh(r.value as usize);
-        self.note(used, s, r.place);
-        self.level = higher_of(self.level, s);
+        let name = r.value as usize;
+        let s = self.table.get(name);
+        if self.is_fresh(name) {
+            self.note(s, r.place);
+        }
+        self.level = self.level.max(s);
     }
 
     fn list(&mut self, r: Row)
-        ensures { (all : List RowOf) → state_of all self.new ≡ lists r (state_of all self.old) }
+        ensures { Moves self.old self.new (lists r) }
     {
         let s = self.table.get(r.value as usize);
-        self.note(true, s, r.place);
-    }
-
-    fn read_channel(&mut self)
-        ensures { (all : List RowOf) → state_of all self.new ≡ reads_channel (state_of all self.old) }
-    {
-        self.level = reading_at(self.inside);
+        self.note(s, r.place);
     }
 
     fn set(&mut self)
-        ensures { (all : List RowOf) → state_of all self.new ≡ sets (state_of all self.old) }
+        ensures { Moves self.old self.new sets }
     {
-        self.table.put(self.target, self.level);
+        if let Some(name) = self.target {
+            self.table.put(name, self.level);
+        }
         self.level = Standing::Clean;
-        self.target = 128;
+        self.target = None;
     }
 
-    // What the row at `at` does; the others say nothing of how names stand.
-    fn act(&mut self, rows: &[Row], at: usize, r: Row)
-        requires { at < length rows.now }
-        ensures { state_of rows.now self.new ≡ step r (drop (at + 1) rows.now) (state_of rows.now self.old) }
+    // What a row does, behind those that were seen; the others say nothing of how names stand.
+    fn act(&mut self, seen: &[Row], r: Row)
+        ensures { (rest : List RowOf) → MovesOver (seen.now ++ r ∷ rest) self.old self.new (step r rest) }
     {
+        let from = seen.len() + 1;
         match r.role {
-            Role::FreshName => self.mark(r),
-            Role::Target => self.aim(r),
+            Role::FreshName => set_at(&mut self.fresh, r.value as usize, true),
+            Role::Target => self.target = Some(r.value as usize),
             Role::Operand => self.read_name(r),
             Role::Listed => self.list(r),
-            Role::Channel => self.read_channel(),
+            Role::Channel => self.level = reading_at(self.inside),
             Role::SetEnd | Role::ReadEnd => self.set(),
-            Role::ThenOpen => self.branch(at + 1),
-            Role::WhenClose => self.join_entry(rows, at),
+            Role::ThenOpen => self.branch(from),
+            Role::WhenClose | Role::ElseClose => self.join(seen),
             Role::ThenClose => self.swap(),
-            Role::ElseClose => self.join_ends(rows, at),
-            Role::BodyOpen => self.enter(at + 1),
+            Role::BodyOpen => self.enter(from),
             Role::BodyClose => self.leave(),
-            Role::RegionOpen => self.open_region(at + 1),
+            Role::RegionOpen => self.open_region(from),
             Role::RegionClose => self.close_region(),
             _ => {}
         }
@@ -160,8 +118,9 @@ impl Check {
         ensures { state_of rows.now self.new ≡ run rows.now (begun (tables self.old.entries)) }
     {
         self.begin();
-        for at in 0..rows.len() {
-            self.act(rows, at, rows[at]);
+        // by index, since a row is told what stands before it
+        for (at, row) in rows.iter().enumerate() {
+            self.act(&rows[..at], *row);
         }
     }
 }

@@ -1,11 +1,12 @@
 // A part of a line as a person sees it, and the blanks that put a caret under a place of it.
-ghost use Rattle.std.specs.Prelude.{◌≡◌, ◌<◌, map, IfOk, string_bytes};
+ghost use Rattle.std.specs.Prelude.{◌≡◌, map, IfOk, string_bytes};
 ghost use Rattle.report.specs.Seen.{seen};
-ghost use Rattle.report.specs.declared.excerpt.How.TheVariants.{Shown};
 
 use std::alloc::{AllocError, Global};
 
-#[derive(Clone, Copy)]
+// What is wanted of a part of a line: its bytes, or the blanks above which they stand. A parameter of a public
+// function, by which `seen` goes, the definition that states its promise: so one function with it, and not two.
+#[derive(Clone, Copy, PartialEq, Eq, Debug)]
 pub enum How {
     Shown,
     Blank,
@@ -13,34 +14,18 @@ pub enum How {
 
 // A tab stays a tab in both, so that the caret stands under its place whatever a tab's width is.
 fn seen_as(how: How, b: u8) -> u8
-    ensures value { result ≡ seen how b }
-    ensures ascii { result < 128 }
+    ensures { result ≡ seen how b }
 {
-    match how {
-        How::Shown => shown(b),
-        How::Blank => if b == 9 { 9 } else { b' ' },
-    }
-}
-
-fn shown(b: u8) -> u8
-    ensures value { result ≡ seen Shown b }
-    ensures ascii { result < 128 }
-{
-    if b >= 32 && b <= 126 || b == 9 {
-        b
-    } else if b == 13 {
-        b' '
-    } else {
-        b'.'
+    match (how, b) {
+        (_, b'\t') => b'\t',
+        (How::Shown, b' '..=b'~') => b,
+        (How::Shown, b'\r') | (How::Blank, _) => b' ',
+        (How::Shown, _) => b'.',
     }
 }
 
 pub fn excerpt(heap: Global, bytes: &[u8], how: How) -> Result<String, AllocError>
     ensures { IfOk result (λ s. string_bytes s ≡ map (seen how) bytes.now) }
 {
-    let mut s = String::new(heap);
-    for b in bytes {
-        s.push(seen_as(how, *b) as char)?;
-    }
-    Ok(s)
+    bytes.iter().map(|b| seen_as(how, *b) as char).collect(heap)
 }

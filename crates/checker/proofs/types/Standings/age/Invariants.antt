@@ -4,5 +4,5 @@ use Rattle.script.specs.declared.standing.Standing.TheVariants.{Clean}
 use Rattle.checker.proofs.Tables.{Partly}
 use Rattle.checker.proofs.types.Standings.age.Given as goal
 
-abbrev pub invariant-loop-i : goal.invariant-loop-i
-invariant-loop-i l = Partly (λ k. older (get_or l.initial.self.of k Clean)) l.initial.self.of l.self.of l.i
+abbrev pub invariant-loop-s : goal.invariant-loop-s
+invariant-loop-s l = Partly (λ k. older (get_or l.fn.self.of k Clean)) l.fn.self.of l.s-items l.s-index
