@@ -1,4 +1,3 @@
 pub mod Buffer
 pub mod Made
 pub mod Works
-pub mod Fit

@@ -3,12 +3,14 @@
 use Rattle.std.proofs.Common.{◌≡◌, ℕ, zero, suc, ◌<◌, ◌≤◌, min, Bool, true, false, cond, ltb, leb, List, length, get_or, ℤ, pos, Ok, Err, sym, refl, ap, ◌∙◌, arith}
 use Rattle.script.specs.Faults.{fault}
 use Rattle.memory.specs.Meaning.{Meaning}
-use Rattle.memory.specs.Calls.{goal, Obeyed}
+use Rattle.memory.specs.declared.Spent.TheVariants.{Done, Cut}
+use Rattle.memory.specs.Calls.{Mend, goal, Obeyed}
 use Rattle.memory.specs.Model.{Lawful, cell_of}
-use Rattle.memory.specs.Plan.{Plan, applied, spent, model_of, Good, Works}
+use Rattle.memory.specs.Spent.{is_done, written, spent}
+use Rattle.memory.specs.Plan.{Plan, applied, model_of, Good, Works}
 
 pub no_way : {P : Type 0} → true ≡ false → P
-no_way e = let z : ◌≡◌ {A = ℕ} 0 1 = cc in absurd (omega arith)
+no_way e = absurd (cc)
 
 pub meaning_eq : {k k' c c' : List ℤ} {u u' : Bool} → k ≡ k' → c ≡ c' → u ≡ u' → ◌≡◌ {A = Meaning} (record { kept = k; current = c; is_open = u }) (record { kept = k'; current = c'; is_open = u' })
 meaning_eq {k} {k'} {c} {c'} {u} {u'} e f g = ap (λ (x : List ℤ). record { kept = x; current = c; is_open = u }) e ∙ ap (λ (x : List ℤ). record { kept = k'; current = x; is_open = u }) f ∙ ap (λ (x : Bool). record { kept = k'; current = c'; is_open = x }) g
@@ -40,19 +42,34 @@ one_good p w a want l l' e = record { few = omega arith; fines = fine; keeps = �
     same zero h = refl
     same (suc k) h = absurd (omega arith)
 
-all_of : (n u : ℕ) → leb n u ≡ true → n ≤ u
-all_of n u e = grind arith
+-- the answer of a call of n words with u units left, done and cut
+done_of : (n u : ℕ) → is_done (spent n u) ≡ leb n u
+done_of n u = by (leb n u)
+  where
+    by : (b : Bool) → is_done (cond b (Done n) (Cut u)) ≡ b
+    by true = refl
+    by false = refl
 
-cut_of : (n u : ℕ) → leb n u ≡ false → u < n
-cut_of n u e = grind arith
+written_of : (n u : ℕ) → written (spent n u) ≡ min u n
+written_of n u = by (leb n u) refl
+  where
+    by : (b : Bool) → leb n u ≡ b → written (cond b (Done n) (Cut u)) ≡ min u n
+    by true e = let l : n ≤ u = grind arith in omega arith
+    by false e = let l : u < n = grind arith in omega arith
+
+all_of : (n u : ℕ) → is_done (spent n u) ≡ true → n ≤ u
+all_of n u d = let e : leb n u ≡ true = sym (done_of n u) ∙ d in grind arith
+
+cut_of : (n u : ℕ) → is_done (spent n u) ≡ false → u < n
+cut_of n u d = let e : leb n u ≡ false = sym (done_of n u) ∙ d in grind arith
 
 obeyed : (p : Plan) (k : Works p) (w : p.State) (n : ℕ) (f : ℕ → p.Word) (want : Meaning) → p.fine w → Good p w n f want → (u : ℕ) → Obeyed (p.means w) want u (spent n u) (p.means (applied p.write f w (min u n)))
 obeyed p k w n f want l g u = record {
-  within = omega arith;
-  few = λ d. let b = g.few in omega arith;
+  within = let e = written_of n u in omega arith;
+  few = λ d. let b = g.few in let e = written_of n u in omega arith;
   effect = λ d. let l = all_of n u d in let e : min u n ≡ n = omega arith in ap (λ (k : ℕ). p.means (applied p.write f w k)) e ∙ g.whole;
   short = λ d. let l = cut_of n u d in let b = g.few in omega arith;
-  spends = λ d. let l = cut_of n u d in omega arith;
+  spends = λ d. let l = cut_of n u d in let e = written_of n u in omega arith;
   keeps = λ d. let l = cut_of n u d in g.keeps (min u n) (omega arith);
   stays = λ d. let l = cut_of n u d in g.stays (min u n) (omega arith);
   rests = λ d shut.
@@ -66,5 +83,5 @@ lawful_of p k = record {
   sound = k.sound;
   stays_fine = λ w a u ok c. (k.good w a ok c).fines (min u (p.many w a)) (omega arith);
   rules = λ w a u ok c. obeyed p k w (p.many w a) (p.word w a) (goal (p.means w) a) ok (k.good w a ok c) u;
-  idle = λ w u ok e. let z = k.idle w ok e in omega (arith, z);
+  idle = λ w u ok e. let z = k.idle w ok e in let n = written_of (p.many w Mend) u in omega arith;
 }

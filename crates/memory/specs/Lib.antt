@@ -1,4 +1,5 @@
 pub mod Meaning
+pub mod Spent
 pub mod Calls
 pub mod Model
 pub mod Plan

@@ -4,6 +4,7 @@ use Rattle.std.specs.Prelude.{◌≡◌, ℕ, true, false, cond, List, length, �
 use Rattle.script.specs.declared.fault.Fault.{Fault}
 use Rattle.script.specs.Faults.{fault}
 use Rattle.memory.specs.declared.Spent.{Spent}
+use Rattle.memory.specs.Spent.{written}
 use Rattle.memory.specs.Meaning.{Meaning, Sound}
 use Rattle.memory.specs.Calls.{Call, Mend, can, refusal, goal, Obeyed}
 
@@ -25,7 +26,7 @@ pub record Lawful (m : Model) : Type 0 where
   pub sound : (w : m.State) → m.fine w → Sound (m.means w)
   pub stays_fine : (w : m.State) (a : Call) (u : ℕ) → m.fine w → can (m.means w) a ≡ true → m.fine (m.act w a u).after
   pub rules : (w : m.State) (a : Call) (u : ℕ) → m.fine w → can (m.means w) a ≡ true → Obeyed (m.means w) (goal (m.means w) a) u (m.act w a u).answer (m.means (m.act w a u).after)
-  pub idle : (w : m.State) (u : ℕ) → m.fine w → (m.means w).is_open ≡ false → (m.act w Mend u).answer.words ≡ 0
+  pub idle : (w : m.State) (u : ℕ) → m.fine w → (m.means w).is_open ≡ false → written (m.act w Mend u).answer ≡ 0
 
 -- a call's answer, a refusal where it is not taken, and the state after it, untouched by a refusal
 abbrev pub answer : (m : Model) → m.State → Call → ℕ → Result Spent Fault

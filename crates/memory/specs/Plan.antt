@@ -1,7 +1,7 @@
 -- A memory whose calls write words one by one. A call is cut exactly at a word for which there is no unit,
 -- and the words before it stand.
-use Rattle.std.specs.Prelude.{◌≡◌, ℕ, zero, suc, ◌+◌, ◌<◌, ◌≤◌, min, true, false, length, nat_le}
-use Rattle.memory.specs.declared.Spent.{Spent}
+use Rattle.std.specs.Prelude.{◌≡◌, ℕ, zero, suc, ◌+◌, ◌<◌, ◌≤◌, min, true, false, length}
+use Rattle.memory.specs.Spent.{spent}
 use Rattle.memory.specs.Meaning.{Meaning, Sound}
 use Rattle.memory.specs.Calls.{Call, Mend, can, goal}
 use Rattle.memory.specs.Model.{Model}
@@ -20,10 +20,6 @@ pub record Plan : Type 1 where
 abbrev pub applied : {S W : Type 0} → (S → W → S) → (ℕ → W) → S → ℕ → S
 applied write f w zero = w
 applied write f w (suc k) = write (applied write f w k) (f k)
-
--- the answer of a call of n words, with u units left
-abbrev pub spent : ℕ → ℕ → Spent
-spent n u = record { done = nat_le n u; words = min u n }
 
 -- the model of such a memory
 abbrev pub model_of : Plan → Model

@@ -1,5 +1,6 @@
 -- What the rules come to for a region: however it is cut, once it is mended it is as if it had not begun.
 use Rattle.std.specs.Prelude.{◌≡◌, ℕ, Bool, true, false, ◌&&◌, List, [], ◌∷◌}
+use Rattle.memory.specs.Spent.{is_done}
 use Rattle.memory.specs.Calls.{Call, Put, Open, Close, Mend}
 use Rattle.memory.specs.Model.{Model, after}
 
@@ -23,14 +24,14 @@ ending Mend = true
 -- none of the calls ends the region: each close and each mend among them is cut, or refused
 abbrev pub GoesOn : (m : Model) → m.State → List Event → Type 0
 GoesOn m w [] = Unit {0}
-GoesOn m w (e ∷ es) = ((ending e.call && (m.act w e.call e.units).answer.done) ≡ false) × GoesOn m (after m w e.call e.units) es
+GoesOn m w (e ∷ es) = ((ending e.call && is_done (m.act w e.call e.units).answer) ≡ false) × GoesOn m (after m w e.call e.units) es
 
 -- from the opened state w' on, calls that do not end the region and then a mend that is done lead back to what w means
 abbrev pub BackTo : (m : Model) → m.State → m.State → Type 0
 BackTo m w w' =
-    (es : List Event) (u : ℕ) → GoesOn m w' es → (m.act (run m w' es) Mend u).answer.done ≡ true → m.means (m.act (run m w' es) Mend u).after ≡ m.means w
+    (es : List Event) (u : ℕ) → GoesOn m w' es → is_done (m.act (run m w' es) Mend u).answer ≡ true → m.means (m.act (run m w' es) Mend u).after ≡ m.means w
 
 -- so it is wherever a closed memory is opened
 abbrev pub AsIfNotBegun : Model → Type 0
 AsIfNotBegun m =
-    (w : m.State) (u : ℕ) → m.fine w → (m.means w).is_open ≡ false → (m.act w Open u).answer.done ≡ true → BackTo m w (m.act w Open u).after
+    (w : m.State) (u : ℕ) → m.fine w → (m.means w).is_open ≡ false → is_done (m.act w Open u).answer ≡ true → BackTo m w (m.act w Open u).after

@@ -11,7 +11,7 @@
 ghost use Rattle.std.specs.Prelude.{◌≡◌, length};
 ghost use Rattle.memory.specs.Calls.{Put, Open, Close, Mend};
 ghost use Rattle.memory.specs.Model.{Model, Lawful, answer, after, cell_of};
-ghost use Rattle.memory.specs.Plan.{spent};
+ghost use Rattle.memory.specs.Spent.{is_done, written, spent};
 
 use script::fault::Fault;
 
@@ -19,11 +19,11 @@ pub mod cells;
 pub mod refusals;
 pub mod region;
 
-// What a call that writes answers: whether it is done or was cut, and how many words it wrote.
-#[derive(Clone, Copy, PartialEq, Debug)]
-pub struct Spent {
-    pub done: bool,
-    pub words: u32,
+// What a call that writes answers: it is done or was cut, after so many words.
+#[derive(Clone, Copy, PartialEq, Eq, Debug)]
+pub enum Spent {
+    Done(u32),
+    Cut(u32),
 }
 
 impl Spent {
@@ -33,11 +33,24 @@ impl Spent {
         ensures { result ≡ spent words units }
     {
         if words <= units {
-            return Spent { done: true, words };
+            Spent::Done(words)
+        } else {
+            Spent::Cut(units)
         }
-        Spent {
-            done: false,
-            words: units,
+    }
+
+    pub fn is_done(self) -> bool
+        ensures { result ≡ is_done self }
+    {
+        matches!(self, Spent::Done(_))
+    }
+
+    // How many words the call wrote.
+    pub fn words(self) -> u32
+        ensures { result ≡ written self }
+    {
+        match self {
+            Spent::Done(words) | Spent::Cut(words) => words,
         }
     }
 }

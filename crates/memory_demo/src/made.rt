@@ -1,6 +1,7 @@
 // Memories made for a script with the numbers that its cells are declared with.
 use double::buffer::Double;
 use memory::Memory;
+use memory::cells::FirstCells;
 use reader::drive::Script;
 use std::process::Abort;
 use undo::log::Undo;
@@ -8,9 +9,9 @@ use undo::log::Undo;
 // A closed memory with just these cells, kept and current.
 fn holds<M: Memory + Drop>(rt: &impl Abort, memory: M, cells: &[i32]) {
     assert!(rt; memory.count() as usize == cells.len() && !memory.is_open());
-    for i in 0..memory.count() {
-        assert_eq!(rt; memory.get(i).ok(), cells.get(i as usize).copied());
-        assert_eq!(rt; memory.kept(i).ok(), cells.get(i as usize).copied());
+    for (i, cell) in (0..memory.count()).zip(cells) {
+        assert_eq!(rt; memory.get(i).ok(), Some(*cell));
+        assert_eq!(rt; memory.kept(i).ok(), Some(*cell));
     }
 }
 

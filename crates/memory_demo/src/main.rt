@@ -11,6 +11,7 @@ mod tests;
 
 use double::buffer::Double;
 use memory::Memory;
+use memory::cells::FirstCells;
 use region::after_cut;
 use std::io;
 use undo::log::Undo;
@@ -18,26 +19,24 @@ use undo::log::Undo;
 // One line: the region with so many units, and what is kept.
 fn show<M: Memory + Drop>(rt: &HostRuntime, mut memory: M, units: u32) -> io::Result<()> {
     match after_cut(&mut memory, units) {
-        Ok(end) => {
-            let word = if end.closed { "closed" } else { "cut" };
-            println!(rt; "{units} units: {word}, kept {} {}", end.first, end.second)
-        }
+        Ok((end, first, second)) => { println!(rt; "{units} units: {end}, kept {first} {second}") }
         Err(f) => println!(rt; "{units} units: refused by {}", f.number),
     }
 }
 
-fn main(rt: HostRuntime) -> io::Result<()> {
-    println!(rt; "undo log")?;
-    for units in 0..12 {
-        if let Ok(memory) = Undo::new(&[10, 20]) {
-            show(&rt, memory, units)?;
-        }
-    }
-    println!(rt; "double buffer")?;
-    for units in 0..8 {
-        if let Ok(memory) = Double::new(&[10, 20]) {
-            show(&rt, memory, units)?;
+// A line for each number of units below `most`.
+fn show_all<M: FirstCells + Drop>(rt: &HostRuntime, most: u32) -> io::Result<()> {
+    for units in 0..most {
+        if let Ok(memory) = M::new(&[10, 20]) {
+            show(rt, memory, units)?;
         }
     }
     Ok(())
+}
+
+fn main(rt: HostRuntime) -> io::Result<()> {
+    println!(rt; "undo log")?;
+    show_all::<Undo>(&rt, 12)?;
+    println!(rt; "double buffer")?;
+    show_all::<Double>(&rt, 8)
 }

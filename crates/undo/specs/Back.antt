@@ -1,23 +1,16 @@
 -- Writing old values back.
-use Rattle.std.specs.Prelude.{◌≡◌, ℕ, zero, suc, ◌-◌, ◌<◌, ◌≤◌, Bool, true, false, cond, ◌≢◌, List, [], ◌∷◌, length, get_or, take, set, ℤ, pos, ◌==◌, nat_lt, slice_index, slice_index_or, slice_set, refl}
+use Rattle.std.specs.Prelude.{◌≡◌, ℕ, zero, suc, ◌-◌, ◌<◌, ◌≤◌, Bool, true, false, cond, ◌≢◌, List, length, get_or, take, set, ℤ, pos, ◌==◌, nat_lt, slice_index, slice_index_or, slice_set, refl}
 use Rattle.std.proofs.Common.{sym, ap, subst, ◌∙◌, arith, length-set, get_or-set_same, get_or-set_other, set-set}
-use Rattle.std.proofs.lemmas.List.{set-get_or}
+use Rattle.std.proofs.lemmas.List.{set_comm, set-get_or}
 use Rattle.undo.specs.Log.{undone, among, marked, meaning_of, pairs}
 use Rattle.undo.specs.declared.words.Words.{Words}
 use Rattle.memory.specs.Meaning.{Sound}
 use Rattle.memory.proofs.Plans.{no_way}
 
-set_swap : (l : List ℤ) (i j : ℕ) (a b : ℤ) → (i ≢ j) → slice_set (slice_set l i a) j b ≡ slice_set (slice_set l j b) i a
-set_swap [] i j a b h = refl
-set_swap (x ∷ xs) zero zero a b h = absurd (h refl)
-set_swap (x ∷ xs) zero (suc j) a b h = refl
-set_swap (x ∷ xs) (suc i) zero a b h = refl
-set_swap (x ∷ xs) (suc i) (suc j) a b h = ap (λ (r : List ℤ). x ∷ r) (set_swap xs i j a b (λ e. h (ap suc e)))
-
-same_of : (a b : ℕ) → (a == b) ≡ true → a ≡ b
+pub same_of : (a b : ℕ) → (a == b) ≡ true → a ≡ b
 same_of a b e = grind arith
 
-apart_of : (a b : ℕ) → (a == b) ≡ false → a ≢ b
+pub apart_of : (a b : ℕ) → (a == b) ≡ false → a ≢ b
 apart_of a b e f = grind arith
 
 module _ (ns : List ℕ) (os : List ℤ) where
@@ -36,9 +29,9 @@ module _ (ns : List ℕ) (os : List ℤ) where
           ∙ set-set (undone k ns os (slice_set cs p x)) p (slice_index_or os k (pos 0)) o ∙ ih ∙ sym (set-set (undone k ns os cs) p (slice_index_or os k (pos 0)) o)
           ∙ ap (λ (q : ℕ). set (slice_set (undone k ns os cs) q (slice_index_or os k (pos 0))) p o) (sym f)
       by false e ih =
-          set_swap (undone k ns os (slice_set cs p x)) (slice_index ns k) p (slice_index_or os k (pos 0)) o (apart_of (slice_index ns k) p e)
+          set_comm (undone k ns os (slice_set cs p x)) (slice_index ns k) p (slice_index_or os k (pos 0)) o (apart_of (slice_index ns k) p e)
           ∙ ap (λ (l : List ℤ). set l (slice_index ns k) (slice_index_or os k (pos 0))) ih
-          ∙ sym (set_swap (undone k ns os cs) (slice_index ns k) p (slice_index_or os k (pos 0)) o (apart_of (slice_index ns k) p e))
+          ∙ sym (set_comm (undone k ns os cs) (slice_index ns k) p (slice_index_or os k (pos 0)) o (apart_of (slice_index ns k) p e))
 
   -- a logged cell may hold anything
   pub logged_free : (k : ℕ) (cs : List ℤ) (p : ℕ) (x : ℤ) → among k ns p ≡ true → undone k ns os (slice_set cs p x) ≡ undone k ns os cs

@@ -1,170 +1,151 @@
 // The log as a memory: which words each call writes, in order, as far as the units go.
-ghost use Rattle.std.specs.Prelude.{◌≡◌, ℕ, ◌-◌, ◌<◌, ◌≤◌, min, pos, slice_index, slice_index_or};
-ghost use Rattle.script.specs.Numbers.{declared};
-ghost use Rattle.reader.specs.Holding.{syntax};
-ghost use Rattle.memory.specs.Plan.{applied, spent};
-ghost use Rattle.memory.specs.Cells.{made_of};
-ghost use Rattle.memory.specs.Meaning.{closed_with};
-ghost use Rattle.undo.specs.Log.{meaning_of, pairs, among, undone, fresh, first_word, mend_word, write, Cell, undo_model, undo_plan};
-ghost use Rattle.undo.specs.Made.{words_of, first_words};
+ghost use Rattle.std.specs.Prelude.{◌≡◌, ℕ, ◌==◌, ◌<◌, ◌≤◌, length, min, pos, position, slice_index, slice_index_or, take, refl};
+ghost use Rattle.memory.specs.Plan.{applied};
+ghost use Rattle.memory.specs.Spent.{spent};
+ghost use Rattle.undo.specs.Log.{Log64, meaning_of, pairs, among, undone, fresh, first_word, mend_word, write, Cell, undo_model, undo_plan};
+ghost use Rattle.undo.specs.Made.{first_words};
 ghost use Rattle.memory.proofs.Plans.{lawful_of};
 ghost use Rattle.undo.specs.Works.{works};
-ghost use Rattle.undo.specs.Fit.{log_of};
+ghost use Rattle.undo.specs.declared.words.Words.{Words as Log};
 
 use crate::log::Undo;
 use crate::words::Words;
-use memory::cells::first_cells;
+use memory::cells::{FirstCells, first_cells};
+use memory::refusals::{check_cell, check_closed, check_open};
 use memory::{Memory, Spent};
-use reader::drive::Script;
 use script::fault::Fault;
 
-// The words of a new log.
-fn made(values: &[i32]) -> Result<Words, Fault>
-    ensures { result ≡ made_of values.now (first_words values.now) }
-{
-    let cells = first_cells(values)?;
-    Ok(Words {
-        cells,
-        numbers: [0; 64],
-        olds: [0; 64],
-        state: 0,
-        count: values.len() as u32,
-    })
+impl FirstCells for Undo {
+    ghost Words = { Log };
+
+    ghost words = { λ m. m.words };
+
+    ghost meaning = { meaning_of };
+
+    ghost first = { first_words };
+
+    ghost as_memory = { λ m. refl };
+
+    fn new(values: &[i32]) -> Result<Undo, Fault> {
+        let cells = first_cells(values)?;
+        Ok(Undo {
+            words: Words {
+                cells,
+                numbers: [0; 64],
+                olds: [0; 64],
+                state: 0,
+                count: values.len() as u32,
+            },
+        })
+    }
 }
 
 impl Undo {
-    // A closed memory of the first values; more than 64 are refused by 29.
-    pub fn new(values: &[i32]) -> Result<Undo, Fault>
-        ensures words { words_of result ≡ made_of values.now (first_words values.now) }
-        ensures means { meaning_of (first_words values.now) ≡ closed_with values.now }
+    // The numbers of the cells that have a pair in force.
+    fn numbers(&self) -> &[u32]
+        ensures { result.now ≡ take (pairs self.now.words) self.now.words.numbers }
     {
-        let words = made(values)?;
-        Ok(Undo { words })
+        &self.words.numbers[..self.words.pairs()]
     }
 
-    // A closed memory of the script's cells with the numbers that they are declared with. A script has
-    // at most 64, so it is never refused.
-    pub fn of_script(script: &Script) -> Undo
-        ensures words { result.words ≡ first_words (declared (syntax script.now).decls) }
-        ensures means { meaning_of result.words ≡ closed_with (declared (syntax script.now).decls) }
+    // Whether the cell has a pair.
+    fn is_logged(&self, i: u32) -> bool
+        ensures { result ≡ among (pairs self.now.words) self.now.words.numbers i }
     {
-        let numbers = script.declared();
-        let words = made(numbers.as_slice()).unwrap();
-        Undo { words }
+        self.numbers().contains(&i)
+    }
+
+    // The cell's pair, of which there is at most one.
+    fn pair_of(&self, i: u32) -> Option<usize>
+        ensures { result ≡ position (λ n. n == i) (take (pairs self.now.words) self.now.words.numbers) }
+    {
+        self.numbers().iter().position(|number| *number == i)
+    }
+
+    // Whether a put of the cell is its first in a region.
+    fn is_fresh(&self, i: u32) -> bool
+        ensures { result ≡ fresh self.now.words i }
+    {
+        self.is_open() && !self.is_logged(i)
+    }
+
+    // The kept value of a cell: the old value of its pair, or what the cell holds where it has none.
+    fn old_value(&self, i: u32) -> i32
+        requires { i < self.now.words.count }
+        ensures { result ≡ slice_index_or (undone (pairs self.now.words) self.now.words.numbers self.now.words.olds self.now.words.cells) i (pos 0) }
+    {
+        self.pair_of(i)
+            .map_or(self.words.cells[i as usize], |k| self.words.olds[k])
     }
 }
 
-// How many cells there are.
-fn cell_count(w: &Words) -> u32
-    ensures { result ≡ w.now.count }
+// Writes old values back into their cells.
+fn write_back(cells: &mut [i32; 64], numbers: &[u32], olds: &[i32])
+    requires cells { (j : ℕ) → j < length numbers.now → slice_index numbers.now j < 64 }
+    requires paired { length olds.now ≡ length numbers.now }
+    ensures { cells.new ≡ undone (length numbers.now) numbers.now olds.now cells.old }
 {
-    w.count
+    for (number, old) in numbers.iter().zip(olds) {
+        cells[*number as usize] = *old;
+    }
 }
 
-// Whether the cell has a pair.
-fn logged(w: &Words, i: u32) -> bool
-    requires { w.now.state ≤ 65 }
-    ensures { result ≡ among (pairs w.now) w.now.numbers i }
-{
-    if w.state < 2 {
-        return false;
+impl Words {
+    // How many pairs are in force.
+    fn pairs(&self) -> usize
+        ensures { result ≡ pairs self.now }
+    {
+        self.state.saturating_sub(1) as usize
     }
-    let mut found = false;
-    for j in 0..(w.state - 1) {
-        if w.numbers[j as usize] == i {
-            found = true;
+
+    // Writes the cell's word. Cell, value and units come as `Memory::put` has them.
+    fn put(&mut self, i: u32, x: i32, units: u32) -> Spent
+        requires { i < 64 }
+        ensures said { result ≡ spent 1 units }
+        ensures left { self.new ≡ applied write (λ _. Cell i x) self.old (min units 1) }
+    {
+        if units > 0 {
+            self.cells[i as usize] = x;
         }
+        Spent::of(1, units)
     }
-    found
-}
 
-// Whether a put of the cell is its first in a region.
-fn is_fresh(w: &Words, i: u32) -> bool
-    requires { w.now.state ≤ 65 }
-    ensures { result ≡ fresh w.now i }
-{
-    w.state > 0 && !logged(w, i)
-}
-
-// The kept value of a cell: the old value of its pair, or what the cell holds where it has none.
-fn old_value(w: &Words, i: u32) -> i32
-    requires { (i < 64) × (w.now.state ≤ 65) }
-    ensures { result ≡ slice_index_or (undone (pairs w.now) w.now.numbers w.now.olds w.now.cells) i (pos 0) }
-{
-    let mut value = w.cells[i as usize];
-    if w.state < 2 {
-        return value;
-    }
-    for j in 0..(w.state - 1) {
-        if w.numbers[j as usize] == i {
-            value = w.olds[j as usize];
+    // Writes number, old value, state and cell.
+    fn put_first(&mut self, i: u32, x: i32, units: u32) -> Spent
+        requires { (i < 64) × ((0 < self.old.state) × (self.old.state ≤ 64)) }
+        ensures said { result ≡ spent 4 units }
+        ensures left { self.new ≡ applied write (first_word self.old i x) self.old (min units 4) }
+    {
+        let answer = Spent::of(4, units);
+        let k = self.pairs();
+        // A call is cut at each of its words, as the project rules.
+        if units == 0 {
+            return answer;
         }
+        self.numbers[k] = i;
+        if units == 1 {
+            return answer;
+        }
+        let old = self.cells[i as usize];
+        self.olds[k] = old;
+        if units == 2 {
+            return answer;
+        }
+        self.state += 1;
+        if units == 3 {
+            return answer;
+        }
+        self.cells[i as usize] = x;
+        answer
     }
-    value
-}
 
-// What a cell holds.
-fn read_cell(w: &Words, at: u32) -> i32
-    requires { at < 64 }
-    ensures { result ≡ slice_index_or w.now.cells at (pos 0) }
-{
-    w.cells[at as usize]
-}
-
-// Writes the cell's word.
-fn write_cell(w: &mut Words, i: u32, x: i32, units: u32) -> Spent
-    requires { i < 64 }
-    ensures said { result ≡ spent 1 units }
-    ensures left { w.new ≡ applied write (λ _. Cell i x) w.old (min units 1) }
-{
-    let answer = Spent::of(1, units);
-    if units == 0 {
-        return answer;
-    }
-    w.cells[i as usize] = x;
-    answer
-}
-
-// Writes number, old value, state and cell.
-fn first_put(w: &mut Words, i: u32, x: i32, units: u32) -> Spent
-    requires { (i < 64) × ((0 < w.old.state) × (w.old.state ≤ 64)) }
-    ensures said { result ≡ spent 4 units }
-    ensures left { w.new ≡ applied write (first_word w.old i x) w.old (min units 4) }
-{
-    let answer = Spent::of(4, units);
-    let k = (w.state - 1) as usize;
-    if units == 0 {
-        return answer;
-    }
-    w.numbers[k] = i;
-    if units == 1 {
-        return answer;
-    }
-    let old = w.cells[i as usize];
-    w.olds[k] = old;
-    if units == 2 {
-        return answer;
-    }
-    w.state += 1;
-    if units == 3 {
-        return answer;
-    }
-    w.cells[i as usize] = x;
-    answer
-}
-
-// Writes old values back.
-fn write_back(w: &mut Words, units: u32)
-    requires { (0 < w.old.state) × ((w.old.state ≤ 65) × (((j : ℕ) → j < pairs w.old → slice_index w.old.numbers j < 64))) }
-    ensures { w.new ≡ applied write (mend_word w.old) w.old (min units (pairs w.old)) }
-{
-    let k = w.state - 1;
-    let mut j = 0;
-    while j < k && j < units {
-        let i = w.numbers[j as usize];
-        let old = w.olds[j as usize];
-        w.cells[i as usize] = old;
-        j += 1;
+    // Writes the old values back, as far as the units go.
+    fn write_back(&mut self, units: u32)
+        requires { Log64 self.old }
+        ensures { self.new ≡ applied write (mend_word self.old) self.old (min units (pairs self.old)) }
+    {
+        let n = self.pairs().min(units as usize);
+        write_back(&mut self.cells, &self.numbers[..n], &self.olds[..n]);
     }
 }
 
@@ -175,10 +156,10 @@ impl Memory for Undo {
 
     ghost lawful = { lawful_of undo_plan works };
 
-    ghost stands = { λ m. log_of m };
+    ghost stands = { λ m. m.fine };
 
     fn count(&self) -> u32 {
-        cell_count(&self.words)
+        self.words.count
     }
 
     fn is_open(&self) -> bool {
@@ -186,64 +167,49 @@ impl Memory for Undo {
     }
 
     fn get(&self, i: u32) -> Result<i32, Fault> {
-        if i >= self.words.count {
-            return Err(Fault::new(26, 0));
-        }
-        Ok(read_cell(&self.words, i))
+        check_cell(i, self.words.count)?;
+        Ok(self.words.cells[i as usize])
     }
 
     fn kept(&self, i: u32) -> Result<i32, Fault> {
-        if i >= self.words.count {
-            return Err(Fault::new(26, 0));
-        }
-        Ok(old_value(&self.words, i))
+        check_cell(i, self.words.count)?;
+        Ok(self.old_value(i))
     }
 
     fn put(&mut self, i: u32, x: i32, units: u32) -> Result<Spent, Fault> {
-        if i >= self.words.count {
-            return Err(Fault::new(26, 0));
+        check_cell(i, self.words.count)?;
+        if self.is_fresh(i) {
+            Ok(self.words.put_first(i, x, units))
+        } else {
+            Ok(self.words.put(i, x, units))
         }
-        if is_fresh(&self.words, i) {
-            return Ok(first_put(&mut self.words, i, x, units));
-        }
-        Ok(write_cell(&mut self.words, i, x, units))
     }
 
     fn open(&mut self, units: u32) -> Result<Spent, Fault> {
-        if self.words.state > 0 {
-            return Err(Fault::new(27, 0));
+        check_closed(self.is_open())?;
+        if units > 0 {
+            self.words.state = 1;
         }
-        let answer = Spent::of(1, units);
-        if units == 0 {
-            return Ok(answer);
-        }
-        self.words.state = 1;
-        Ok(answer)
+        Ok(Spent::of(1, units))
     }
 
     fn close(&mut self, units: u32) -> Result<Spent, Fault> {
-        if self.words.state == 0 {
-            return Err(Fault::new(28, 0));
+        check_open(self.is_open())?;
+        if units > 0 {
+            self.words.state = 0;
         }
-        let answer = Spent::of(1, units);
-        if units == 0 {
-            return Ok(answer);
-        }
-        self.words.state = 0;
-        Ok(answer)
+        Ok(Spent::of(1, units))
     }
 
     fn mend(&mut self, units: u32) -> Spent {
         let answer = Spent::of(self.words.state, units);
-        if self.words.state == 0 {
+        if !self.is_open() {
             return answer;
         }
-        let k = self.words.state - 1;
-        write_back(&mut self.words, units);
-        if units <= k {
-            return answer;
+        self.words.write_back(units);
+        if answer.is_done() {
+            self.words.state = 0;
         }
-        self.words.state = 0;
         answer
     }
 }

@@ -1,6 +1,5 @@
-// The type, whose fields say what every log keeps to.
-ghost use Rattle.std.specs.Prelude.{◌≡◌, ℕ, ◌<◌, ◌≤◌, length, slice_index};
-ghost use Rattle.undo.specs.Log.{pairs, among, marked};
+// The type, whose ghost field says what every log keeps to.
+ghost use Rattle.undo.specs.Log.{Log64};
 
 use crate::words::Words;
 
@@ -8,10 +7,5 @@ use crate::words::Words;
 #[derive(Drop)]
 pub struct Undo {
     pub(crate) words: Words,
-    ghost small: { words.count ≤ 64 },
-    ghost cells: { length words.cells ≡ 64 },
-    ghost numbers: { length words.numbers ≡ 64 },
-    ghost olds: { length words.olds ≡ 64 },
-    ghost each: { (j : ℕ) → j < pairs words → slice_index words.numbers j < words.count },
-    ghost exact: { pairs words ≡ marked words.count (among (pairs words) words.numbers) },
+    ghost fine: { Log64 words },
 }

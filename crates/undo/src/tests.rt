@@ -1,47 +1,18 @@
 // Every word after a cut, on worked examples: the lists of writes of docs/MEMORIES.md, word by word.
 use crate::log::Undo;
 use crate::words::Words;
+use memory::cells::FirstCells;
 use memory::{Memory, Spent};
-use script::fault::Fault;
 use std::process::Abort;
 use std::test::Fail;
 
 const PLENTY: u32 = 1000;
 
-// All words are those that are wanted.
-fn stands(rt: &impl Abort, memory: &Undo, want: &Words) {
-    let w = &memory.words;
-    assert!(rt; w.cells[..] == want.cells[..]);
-    assert!(rt; w.numbers[..] == want.numbers[..]);
-    assert!(rt; w.olds[..] == want.olds[..]);
-    assert_eq!(rt; w.state, want.state);
-    assert_eq!(rt; w.count, want.count);
-}
-
-fn spent(
-    rt: &impl Abort,
-    answer: Result<Spent, Fault>,
-    words: u32,
-    units: u32,
-) -> Result<(), Fail> {
-    match answer {
-        Ok(s) => {
-            assert!(rt; s == Spent::of(words, units));
-            Ok(())
-        },
-        Err(_) => Err(Fail::new("refused")),
-    }
-}
-
 // A log of the values, opened.
 fn opened(rt: &impl Abort, values: &[i32]) -> Result<Undo, Fail> {
-    match Undo::new(values) {
-        Ok(mut memory) => {
-            spent(rt, memory.open(PLENTY), 1, PLENTY)?;
-            Ok(memory)
-        }
-        Err(_) => Err(Fail::new("refused")),
-    }
+    let mut memory = Undo::new(values)?;
+    assert_eq!(rt; memory.open(PLENTY), Ok(Spent::of(1, PLENTY)));
+    Ok(memory)
 }
 
 // The words of an opened log of 10 and 20.
@@ -80,8 +51,8 @@ fn put_after(units: u32) -> Words {
 fn a_first_put_word_by_word(rt: HostRuntime) -> Result<(), Fail> {
     for units in 0..5 {
         let mut memory = opened(&rt, &[10, 20])?;
-        spent(&rt, memory.put(1, 21, units), 4, units)?;
-        stands(&rt, &memory, &put_after(units));
+        assert_eq!(rt; memory.put(1, 21, units), Ok(Spent::of(4, units)));
+        assert_eq!(rt; memory.words, put_after(units));
     }
     Ok(())
 }
@@ -92,12 +63,12 @@ fn a_first_put_word_by_word(rt: HostRuntime) -> Result<(), Fail> {
 fn a_second_put_after_each_cut(rt: HostRuntime) -> Result<(), Fail> {
     for units in 0..5 {
         let mut memory = opened(&rt, &[10, 20])?;
-        spent(&rt, memory.put(1, 21, units), 4, units)?;
+        assert_eq!(rt; memory.put(1, 21, units), Ok(Spent::of(4, units)));
         let words = if units < 3 { 4 } else { 1 };
-        spent(&rt, memory.put(1, 22, PLENTY), words, PLENTY)?;
+        assert_eq!(rt; memory.put(1, 22, PLENTY), Ok(Spent::of(words, PLENTY)));
         let mut want = put_after(4);
         want.cells[1] = 22;
-        stands(&rt, &memory, &want);
+        assert_eq!(rt; memory.words, want);
     }
     Ok(())
 }
@@ -106,7 +77,7 @@ fn a_second_put_after_each_cut(rt: HostRuntime) -> Result<(), Fail> {
 fn all_put(rt: &impl Abort) -> Result<Undo, Fail> {
     let mut memory = opened(rt, &[5; 64])?;
     for j in 0..64u32 {
-        spent(rt, memory.put(63 - j, 7, PLENTY), 4, PLENTY)?;
+        assert_eq!(rt; memory.put(63 - j, 7, PLENTY), Ok(Spent::of(4, PLENTY)));
     }
     Ok(memory)
 }
@@ -116,18 +87,16 @@ fn a_mend_of_64_pairs_word_by_word(rt: HostRuntime) -> Result<(), Fail> {
     for units in 0..66u32 {
         let mut memory = all_put(&rt)?;
         let mut want = memory.words;
-        for j in 0..64usize {
-            if (j as u32) < units {
-                want.cells[63 - j] = 5;
-            }
+        for cell in want.cells.iter_mut().rev().take(units as usize) {
+            *cell = 5;
         }
         if units == 65 {
             want.state = 0;
         }
-        assert!(rt; memory.mend(units) == Spent::of(65, units));
-        stands(&rt, &memory, &want);
-        assert!(rt; memory.mend(PLENTY).done);
-        assert!(rt; memory.words.cells[..] == [5; 64][..]);
+        assert_eq!(rt; memory.mend(units), Spent::of(65, units));
+        assert_eq!(rt; memory.words, want);
+        assert!(rt; memory.mend(PLENTY).is_done());
+        assert_eq!(rt; memory.words.cells[..], [5; 64][..]);
     }
     Ok(())
 }
@@ -135,19 +104,19 @@ fn a_mend_of_64_pairs_word_by_word(rt: HostRuntime) -> Result<(), Fail> {
 #[test]
 fn close_and_open_write_the_state_alone(rt: HostRuntime) -> Result<(), Fail> {
     let mut memory = opened(&rt, &[10, 20])?;
-    spent(&rt, memory.put(1, 21, PLENTY), 4, PLENTY)?;
+    assert_eq!(rt; memory.put(1, 21, PLENTY), Ok(Spent::of(4, PLENTY)));
     let mut want = put_after(4);
-    spent(&rt, memory.close(0), 1, 0)?;
-    stands(&rt, &memory, &want);
-    spent(&rt, memory.close(1), 1, 1)?;
+    assert_eq!(rt; memory.close(0), Ok(Spent::of(1, 0)));
+    assert_eq!(rt; memory.words, want);
+    assert_eq!(rt; memory.close(1), Ok(Spent::of(1, 1)));
     want.state = 0;
-    stands(&rt, &memory, &want);
-    spent(&rt, memory.put(0, 11, 1), 1, 1)?;
+    assert_eq!(rt; memory.words, want);
+    assert_eq!(rt; memory.put(0, 11, 1), Ok(Spent::of(1, 1)));
     want.cells[0] = 11;
-    spent(&rt, memory.open(0), 1, 0)?;
-    stands(&rt, &memory, &want);
-    spent(&rt, memory.open(1), 1, 1)?;
+    assert_eq!(rt; memory.open(0), Ok(Spent::of(1, 0)));
+    assert_eq!(rt; memory.words, want);
+    assert_eq!(rt; memory.open(1), Ok(Spent::of(1, 1)));
     want.state = 1;
-    stands(&rt, &memory, &want);
+    assert_eq!(rt; memory.words, want);
     Ok(())
 }

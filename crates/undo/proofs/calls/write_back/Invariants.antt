@@ -1,10 +1,6 @@
-use Rattle.std.proofs.Common.{◌≡◌, ◌-◌, ◌≤◌}
-use Rattle.memory.specs.Plan.{applied}
-use Rattle.undo.specs.Log.{write, mend_word}
+use Rattle.std.proofs.Common.{◌≡◌, length}
+use Rattle.undo.specs.Log.{undone}
 use Rattle.undo.proofs.calls.write_back.Given as goal
 
-abbrev pub invariant-loop-j : goal.invariant-loop-j
-invariant-loop-j l = (l.j ≤ l.k) × (l.j ≤ l.units) × (l.w ≡ applied write (mend_word l.initial.w) l.initial.w l.j)
-
-abbrev pub decreases-loop-j : goal.decreases-loop-j
-decreases-loop-j l = l.k - l.j
+abbrev pub invariant-loop-number : goal.invariant-loop-number
+invariant-loop-number l = l.cells ≡ undone (length l.yielded) l.numbers l.olds l.initial.cells

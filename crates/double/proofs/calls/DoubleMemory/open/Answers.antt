@@ -1,39 +1,24 @@
-use Rattle.std.proofs.Common.{ℕ, ◌+◌, min, Ok, sym, ap, ◌∙◌, subst, arith}
-use Rattle.memory.specs.declared.Spent.{Spent}
+use Rattle.std.proofs.Common.{◌≡◌, ℕ, ◌+◌, false, sym, ap, ◌∙◌, arith}
 use Rattle.memory.specs.Plan.{applied}
 use Rattle.double.specs.declared.halves.Halves.{Halves}
-use Rattle.double.specs.Buffer.{Two64, write, open_word, Flag}
-use Rattle.double.specs.Works.{open_fines, open_last, open_is, closed_of, opening, flag_fine, cut_open}
-use Rattle.double.specs.Fit.{two_of}
+use Rattle.double.specs.declared.buffer.Double.{Double}
+use Rattle.double.specs.Buffer.{up, write, open_word, Flag}
+use Rattle.double.specs.Works.{copy_words, open_last, open_is, cut_open}
 use Rattle.double.proofs.calls.DoubleMemory.open.Goals as goal
+use Rattle.double.proofs.calls.DoubleMemory.open.Goals.{then-units-all, else-units-all}
 
-pub invariant_of-self : goal.invariant_of-self
-invariant_of-self c =
+pub returns-clause-left : goal.returns-clause-left
+returns-clause-left c =
     let w = c.args.self.now.words in
-    let g = subst Two64 (sym c.copy.ensures) (open_fines w (two_of c.args.self.now) (closed_of w.state c.if-self-ge2.false) (min c.args.units w.count) (omega arith)) in
-    record { small = g.small; first = g.first; second = g.second; flag = g.state }
-
-pub invariant_of-self-2 : goal.invariant_of-self-2
-invariant_of-self-2 c =
-    let w = c.args.self.now.words in
-    let z = closed_of w.state c.if-self-ge2.false in
-    let g = flag_fine c.copy.new.w (subst Two64 (sym c.copy.ensures) (open_fines w (two_of c.args.self.now) z (min c.args.units w.count) (omega arith))) (w.state + 2) (opening w.state z).2 in
-    record { small = g.small; first = g.first; second = g.second; flag = g.state }
-
-pub returns-then-units-all : goal.returns-then-units-all
-returns-then-units-all c =
-    let w = c.args.self.now.words in
-    let o = open_is w (closed_of w.state c.if-self-ge2.false) c.args.units in
-    record {
-      said = ap (λ (s : Spent). Ok s) c.of-answer.ensures ∙ sym o.0;
-      left = c.copy.ensures ∙ ap (λ (k : ℕ). applied write (open_word w) w k) (cut_open w c.args.units c.if-units-all.true) ∙ sym o.1;
-    }
-
-pub returns : goal.returns
-returns c =
-    let w = c.args.self.now.words in
-    let o = open_is w (closed_of w.state c.if-self-ge2.false) c.args.units in
-    record {
-      said = ap (λ (s : Spent). Ok s) c.of-answer.ensures ∙ sym o.0;
-      left = ap (λ (z : Halves). write z (Flag (w.state + 2))) c.copy.ensures ∙ open_last w c.args.units c.if-units-all.false ∙ sym o.1;
-    }
+    let u = c.args.units in
+    let z : up w ≡ false = sym c.is_open.ensures ∙ c.in_ok-check_closed.ensures.closed in
+    let o = open_is w z u in
+    let e = copy_words w c.args.self.now.fine c.copy.new.self u c.min-n.result c.in_force-second.result c.in_force-second.ensures (omega arith) c.copy.ensures in
+    elim c.if-units-all.branch [
+      | then-units-all b ↦
+          ap (λ (d : Double). d.words) b.self-is
+          ∙ ap (λ (s : ℕ). write c.copy.new.self (Flag (s + 2))) (ap (λ (h : Halves). h.state) c.copy.ensures)
+          ∙ ap (λ (h : Halves). write h (Flag (w.state + 2))) e ∙ open_last w u b.if-units-all.true ∙ sym o.1
+      | else-units-all b ↦
+          ap (λ (d : Double). d.words) b.self-is ∙ e ∙ ap (λ (k : ℕ). applied write (open_word w) w k) (cut_open w u b.if-units-all.false) ∙ sym o.1
+    ]

@@ -1,6 +1,0 @@
--- The struct's ghost fields and the buffer's facts.
-use Rattle.double.specs.Buffer.{Two64}
-use Rattle.double.specs.declared.buffer.Double.{Double}
-
-pub two_of : (u : Double) → Two64 u.words
-two_of u = record { small = u.small; first = u.first; second = u.second; state = u.flag }
