@@ -7,6 +7,11 @@ use Rattle.script.specs.Faults.{fault}
 abbrev pub last_tick : ℕ
 last_tick = 2000000000
 
+-- what every host asks of a reading: 34 where there is no such channel, else 35 where there is no such tick
+abbrev pub asked : ℕ → ℕ → ℕ → Result (Unit {0}) Fault
+asked many channel tick =
+    cond (nat_lt channel many) (cond (nat_le tick last_tick) (Ok tt) (Err (fault 35 0))) (Err (fault 34 0))
+
 -- the value of a channel at a tick: 34 where there is no such channel, else 35 where there is no such tick
 abbrev pub read : (ℕ → ℕ → ℤ) → ℕ → ℕ → ℕ → Result ℤ Fault
 read value many channel tick =

@@ -1,5 +1,5 @@
 -- What the trace host gives, and which tables it is made from. Assumes nothing.
-use Rattle.std.specs.Prelude.{ℕ, suc, Bool, cond, ◌&&◌, ◌||◌, List, [], ◌∷◌, length, ℤ, pos, Some, None, Ok, Option, Result, ◌==◌, nat_le, nat_lt}
+use Rattle.std.specs.Prelude.{ℕ, suc, Bool, cond, ◌&&◌, ◌||◌, List, [], ◌∷◌, length, ℤ, pos, Some, None, Ok, Option, Result, ◌==◌, nat_le, nat_lt, position}
 use Rattle.script.specs.declared.fault.Fault.{Fault}
 use Rattle.script.specs.Faults.{unless}
 use Rattle.host.specs.Readings.{last_tick}
@@ -17,12 +17,12 @@ last_of channel tick before [] = before
 last_of channel tick before (s ∷ ss) = last_of channel tick (cond (counts channel tick s) s.value before) ss
 
 -- what a channel gives before its first sample
-abbrev pub before_first : List Sample → ℕ → ℤ
-before_first samples channel = pos 0
+abbrev pub before_first : ℤ
+before_first = pos 0
 
 -- what a table gives
 abbrev pub trace : List Sample → ℕ → ℕ → ℤ
-trace samples channel tick = last_of channel tick (before_first samples channel) samples
+trace samples channel tick = last_of channel tick before_first samples
 
 -- ---- which tables
 
@@ -34,10 +34,9 @@ row_past n = cond (nat_le n 1024) None (Some 1024)
 abbrev pub outside : Sample → Bool
 outside s = nat_lt last_tick s.tick || nat_lt 15 s.channel
 
--- the first row with a wrong tick or channel, counted from i
-abbrev pub first_outside : ℕ → List Sample → Option ℕ
-first_outside i [] = None
-first_outside i (s ∷ ss) = cond (outside s) (Some i) (first_outside (suc i) ss)
+-- the first row with a wrong tick or channel
+abbrev pub first_outside : List Sample → Option ℕ
+first_outside samples = position outside samples
 
 -- 33: ticks never fall. The first row with a tick below that of the row before it, counted from i
 abbrev pub first_fall : ℕ → ℕ → List Sample → Option ℕ
@@ -47,4 +46,4 @@ first_fall i before (s ∷ ss) = cond (nat_lt s.tick before) (Some i) (first_fal
 -- the table that a host is made from, or why there is none: each question is put to the whole table
 abbrev pub trace_table : List Sample → Result (List Sample) Fault
 trace_table samples =
-    unless 31 (row_past (length samples)) (unless 32 (first_outside 0 samples) (unless 33 (first_fall 0 0 samples) (Ok samples)))
+    unless 31 (row_past (length samples)) (unless 32 (first_outside samples) (unless 33 (first_fall 0 0 samples) (Ok samples)))

@@ -1,92 +1,73 @@
 // The drift host: each channel starts at a value and moves by the same amount at each tick.
-ghost use Rattle.std.specs.Prelude.{◌≡◌, ◌≤◌, length, take, pos, ◌+ℤ◌, ◌*ℤ◌};
+ghost use Rattle.std.specs.Prelude.{◌≡◌, ◌≤◌, length, pos, ◌+ℤ◌, ◌*ℤ◌};
 ghost use Rattle.host.specs.Drifts.{cut_off, drift, drift_table};
-ghost use Rattle.host.specs.Readings.{seen_by};
+ghost use Rattle.host.specs.Readings.{last_tick, seen_by};
 
-use crate::Host;
 use crate::table::Rate;
+use crate::{Host, check};
+use list::fixed::Fixed;
 use script::fault::Fault;
+use script::refusal::Refusal;
 
-// The first `len` rows, one for each channel.
+// No table has more rows, since no host has more channels.
+pub const MAX_ROWS: usize = 16;
+
+// One row for each channel.
 #[derive(Drop)]
 pub struct Drift {
-    rates: [Rate; 16],
-    len: u8,
-    ghost some: { 1 ≤ len },
-    ghost few: { len ≤ 16 },
+    rates: Fixed<Rate, MAX_ROWS>,
+    ghost some: { 1 ≤ length rates.items },
+    ghost few: { length rates.items ≤ 16 },
 }
 
 // start + slope × tick, which 64 bits hold.
 fn line(r: Rate, tick: u32) -> i64
-    requires { tick ≤ 2000000000 }
+    requires { tick ≤ last_tick }
     ensures { result ≡ r.start +ℤ r.slope *ℤ pos tick }
 {
-    r.start as i64 + r.slope as i64 * tick as i64
+    i64::from(r.start) + i64::from(r.slope) * i64::from(tick)
 }
 
 // The number, cut off at the ends of 32 bits.
 fn within_i32(z: i64) -> i32
     ensures { result ≡ cut_off z }
 {
-    if z < -2147483648 {
-        return -2147483648;
-    }
-    if z > 2147483647 {
-        return 2147483647;
-    }
-    z as i32
-}
-
-// The rows, in a table of 16.
-fn kept(rows: &[Rate]) -> [Rate; 16]
-    requires { length rows.now ≤ 16 }
-    ensures { take (length rows.now) result ≡ rows.now }
-{
-    let mut all = [Rate { start: 0, slope: 0 }; 16];
-    for i in 0..rows.len() {
-        all[i] = rows[i];
-    }
-    all
+    z.clamp(i64::from(i32::MIN), i64::from(i32::MAX)) as i32
 }
 
 impl Drift {
     // A host with one channel for each row, of which there are 1 to 16.
     pub fn new(rows: &[Rate]) -> Result<Drift, Fault>
-        ensures { seen_by (λ d. take d.len d.rates) result ≡ drift_table rows.now }
+        ensures { seen_by (λ d. d.rates.items) result ≡ drift_table rows.now }
     {
-        if rows.len() == 0 {
-            return Err(Fault::new(30, 0));
+        if rows.is_empty() {
+            return Err(Refusal::WrongRowCount.at(0));
         }
-        if rows.len() > 16 {
-            return Err(Fault::new(30, 16));
+        if rows.len() > MAX_ROWS {
+            return Err(Refusal::WrongRowCount.at(MAX_ROWS));
         }
         Ok(Drift {
-            rates: kept(rows),
-            len: rows.len() as u8,
+            rates: Fixed::of(rows),
         })
     }
 }
 
 impl Host for Drift {
-    ghost value = { λ d. drift (take d.len d.rates) };
+    ghost value = { λ d. drift d.rates.items };
 
-    ghost many = { λ d. d.len };
+    ghost many = { λ d. length d.rates.items };
 
     ghost some = { λ d. d.some };
 
     ghost few = { λ d. d.few };
 
     fn channels(&self) -> u8 {
-        self.len
+        self.rates.len() as u8
     }
 
     fn reading(&self, channel: u8, tick: u32) -> Result<i32, Fault> {
-        if channel >= self.len {
-            return Err(Fault::new(34, 0));
-        }
-        if tick > 2000000000 {
-            return Err(Fault::new(35, 0));
-        }
-        Ok(within_i32(line(self.rates[channel as usize], tick)))
+        check(self.channels(), channel, tick)?;
+        let rates = self.rates.as_slice();
+        Ok(within_i32(line(rates[usize::from(channel)], tick)))
     }
 }

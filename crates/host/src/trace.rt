@@ -1,136 +1,102 @@
 // The trace host: each channel follows the samples that a table lists for it.
-ghost use Rattle.std.specs.Prelude.{◌≡◌, ◌≤◌, length, take};
-ghost use Rattle.host.specs.Order.{InOrder, AllLater};
+ghost use Rattle.std.specs.Prelude.{◌≡◌, ◌<◌, ◌≤◌, ◌==◌, length, drop, find, reverse, IfSome};
+ghost use Rattle.std.specs.Option.{option_copied};
+ghost use Rattle.std.specs.List.{position_from, zip};
 ghost use Rattle.host.specs.Readings.{seen_by};
-ghost use Rattle.host.specs.Traces.{outside, first_outside, first_fall, before_first, trace, trace_table};
+ghost use Rattle.host.specs.Order.{InOrder, IsUpTo, is_peak};
+ghost use Rattle.host.specs.Traces.{outside, first_outside, first_fall, trace, trace_table};
 ghost use Rattle.std.proofs.Common.{leb-true, refl};
 
-use crate::Host;
 use crate::table::Sample;
+use crate::{Host, LAST_TICK, MAX_CHANNELS, check};
+use list::fixed::Fixed;
 use script::fault::Fault;
+use script::refusal::Refusal;
 
-// The first `len` samples, in the order of their ticks.
+// A trace has no more samples.
+pub const MAX_SAMPLES: usize = 1024;
+
+// What a channel gives before its first sample.
+const BEFORE_FIRST: i32 = 0;
+
+// The samples, in the order of their ticks.
 #[derive(Drop)]
 pub struct Trace {
-    samples: [Sample; 1024],
-    len: usize,
-    ghost few: { len ≤ 1024 },
-    ghost long: { length samples ≡ 1024 },
-    ghost ordered: { InOrder len samples },
+    samples: Fixed<Sample, MAX_SAMPLES>,
+    ghost few: { length samples.items ≤ 1024 },
+    ghost ordered: { InOrder samples.items },
 }
 
-fn is_outside(s: Sample) -> bool
-    ensures { result ≡ outside s }
+fn is_outside(s: &Sample) -> bool
+    ensures { result ≡ outside s.now }
 {
-    s.tick > 2000000000 || s.channel > 15
+    s.tick > u64::from(LAST_TICK) || s.channel >= u64::from(MAX_CHANNELS)
 }
 
 // The first row whose tick or channel is wrong.
 fn outside_row(rows: &[Sample]) -> Option<usize>
-    ensures { result ≡ first_outside 0 rows.now }
+    ensures { result ≡ first_outside rows.now }
 {
-    for i in 0..rows.len() {
-        if is_outside(rows[i]) {
-            return Some(i);
-        }
-    }
-    None
+    rows.iter().position(is_outside)
+}
+
+// The first row whose tick is above that of the row after it.
+fn peak_row(rows: &[Sample]) -> Option<usize>
+    ensures found { result ≡ position_from is_peak 0 (zip rows.now (drop 1 rows.now)) }
+    ensures within { IfSome result (λ i. i < length rows.now) }
+{
+    rows.iter()
+        .zip(rows.iter().skip(1))
+        .position(|(s, next)| next.tick < s.tick)
 }
 
 // The first row whose tick is below that of the row before it.
 fn fall_row(rows: &[Sample]) -> Option<usize>
     ensures { result ≡ first_fall 0 0 rows.now }
 {
-    let mut before = 0;
-    for i in 0..rows.len() {
-        if rows[i].tick < before {
-            return Some(i);
-        }
-        before = rows[i].tick;
-    }
-    None
+    peak_row(rows).map(|i| i + 1)
 }
 
-// The rows, in a table of 1,024.
-fn kept(rows: &[Sample]) -> [Sample; 1024]
-    requires { length rows.now ≤ 1024 }
-    ensures front { take (length rows.now) result ≡ rows.now }
-    ensures long { length result ≡ 1024 }
+// The last row of the channel.
+fn latest(rows: &[Sample], channel: u8) -> Option<&Sample>
+    ensures { option_copied result ≡ find (λ s. s.channel == channel) (reverse rows.now) }
 {
-    let mut all = [Sample {
-        tick: 0,
-        channel: 0,
-        value: 0,
-    }; 1024];
-    for i in 0..rows.len() {
-        all[i] = rows[i];
-    }
-    all
+    rows.iter().rev().find(|s| s.channel == u64::from(channel))
 }
 
 impl Trace {
     // A host of 16 channels that follows at most 1,024 samples, whose ticks never fall.
     pub fn new(rows: &[Sample]) -> Result<Trace, Fault>
-        ensures { seen_by (λ t. take t.len t.samples) result ≡ trace_table rows.now }
+        ensures { seen_by (λ t. t.samples.items) result ≡ trace_table rows.now }
     {
-        if rows.len() > 1024 {
-            return Err(Fault::new(31, 1024));
+        if rows.len() > MAX_SAMPLES {
+            return Err(Refusal::TooManySamples.at(MAX_SAMPLES));
         }
-        if let Some(row) = outside_row(rows) {
-            return Err(Fault::new(32, row));
-        }
-        if let Some(row) = fall_row(rows) {
-            return Err(Fault::new(33, row));
-        }
+        Refusal::SampleOutOfRange.answer(outside_row(rows))?;
+        Refusal::TickFalls.answer(fall_row(rows))?;
         Ok(Trace {
-            samples: kept(rows),
-            len: rows.len(),
+            samples: Fixed::of(rows),
         })
     }
 
-    // A row from which on all samples are later than the tick: by halves.
-    fn upto(&self, tick: u32) -> usize
-        ensures within { result ≤ self.now.len }
-        ensures later { AllLater tick result self.now.len self.now.samples }
+    // The samples at or before the tick.
+    fn upto(&self, tick: u32) -> &[Sample]
+        ensures { IsUpTo tick self.now.samples.items result.now }
     {
-        let mut low = 0;
-        let mut high = self.len;
-        while low < high {
-            let middle = low + (high - low) / 2;
-            if self.samples[middle].tick > tick as u64 {
-                high = middle;
-            } else {
-                low = middle + 1;
-            }
-        }
-        high
-    }
-
-    // What the channel gives before its first sample.
-    fn before_first(&self, channel: u8) -> i32
-        ensures { result ≡ before_first (take self.now.len self.now.samples) channel }
-    {
-        0
+        let samples = self.samples.as_slice();
+        &samples[..samples.partition_point(|s| s.tick <= u64::from(tick))]
     }
 
     // The last listed sample of the channel at or before the tick.
     fn last(&self, channel: u8, tick: u32) -> i32
-        ensures { result ≡ trace (take self.now.len self.now.samples) channel tick }
+        ensures { result ≡ trace self.now.samples.items channel tick }
     {
-        let mut i = self.upto(tick);
-        while i > 0 {
-            i -= 1;
-            let s = self.samples[i];
-            if s.channel == channel as u64 && s.tick <= tick as u64 {
-                return s.value;
-            }
-        }
-        self.before_first(channel)
+        latest(self.upto(tick), channel).map_or(BEFORE_FIRST, |s| s.value)
     }
 }
 
 impl Host for Trace {
-    ghost value = { λ t. trace (take t.len t.samples) };
+    ghost value = { λ t. trace t.samples.items };
 
     ghost many = { λ t. 16 };
 
@@ -139,16 +105,11 @@ impl Host for Trace {
     ghost few = { λ t. leb-true 16 16 refl };
 
     fn channels(&self) -> u8 {
-        16
+        MAX_CHANNELS
     }
 
     fn reading(&self, channel: u8, tick: u32) -> Result<i32, Fault> {
-        if channel >= 16 {
-            return Err(Fault::new(34, 0));
-        }
-        if tick > 2000000000 {
-            return Err(Fault::new(35, 0));
-        }
+        check(self.channels(), channel, tick)?;
         Ok(self.last(channel, tick))
     }
 }

@@ -2,7 +2,7 @@
 // `drifted` make a host and read it through the trait, and say what they answer by the table alone.
 #![tactic(auto)]
 
-ghost use Rattle.std.specs.Prelude.{◌≡◌, ℕ, length};
+ghost use Rattle.std.specs.Prelude.{◌≡◌, length};
 ghost use Rattle.host.specs.Drifts.{drift, drift_table};
 ghost use Rattle.host.specs.Readings.{read};
 ghost use Rattle.host.specs.Traces.{trace, trace_table};
@@ -39,44 +39,12 @@ pub fn drifted(rows: &[Rate], channel: u8, tick: u32) -> Result<i32, Fault>
     once(&h, channel, tick)
 }
 
+// The tests say the numbers of the refusals, which are promised, and not the names that code has for them.
 #[cfg(test)]
 mod tests {
     use super::*;
     use list::{Journal, Log};
-    use std::process::Abort;
-    use std::test::Fail;
-
-    fn given(rt: &impl Abort, r: Result<i32, Fault>, value: i32) -> Result<(), Fail> {
-        match r {
-            Ok(v) => {
-                assert_eq!(rt; v, value);
-                Ok(())
-            },
-            Err(f) => {
-                assert_eq!(rt; f.number, 0);
-                Ok(())
-            },
-        }
-    }
-
-    fn refused(
-        rt: &impl Abort,
-        r: Result<i32, Fault>,
-        number: u8,
-        place: usize,
-    ) -> Result<(), Fail> {
-        match r {
-            Ok(_v) => {
-                assert!(rt; false);
-                Ok(())
-            },
-            Err(f) => {
-                assert_eq!(rt; f.number, number);
-                assert_eq!(rt; f.place, place);
-                Ok(())
-            }
-        }
-    }
+    use std::array;
 
     fn at(tick: u64, channel: u64, value: i32) -> Sample {
         Sample {
@@ -87,7 +55,7 @@ mod tests {
     }
 
     #[test]
-    fn drift_at_the_ends(rt: HostRuntime) -> Result<(), Fail> {
+    fn drift_at_the_ends(rt: HostRuntime) {
         let rows = [
             Rate {
                 start: 2147483646,
@@ -106,17 +74,17 @@ mod tests {
                 slope: -10,
             },
         ];
-        given(&rt, drifted(&rows, 0, 1), 2147483647)?;
-        given(&rt, drifted(&rows, 0, 2), 2147483647)?;
-        given(&rt, drifted(&rows, 1, 1), -2147483648)?;
-        given(&rt, drifted(&rows, 1, 2000000000), -2147483648)?;
-        given(&rt, drifted(&rows, 2, 2000000000), 2147483647)?;
-        given(&rt, drifted(&rows, 3, 13), -30)
+        assert_eq!(rt; drifted(&rows, 0, 1), Ok(2147483647));
+        assert_eq!(rt; drifted(&rows, 0, 2), Ok(2147483647));
+        assert_eq!(rt; drifted(&rows, 1, 1), Ok(-2147483648));
+        assert_eq!(rt; drifted(&rows, 1, 2000000000), Ok(-2147483648));
+        assert_eq!(rt; drifted(&rows, 2, 2000000000), Ok(2147483647));
+        assert_eq!(rt; drifted(&rows, 3, 13), Ok(-30));
     }
 
     // The greatest numbers that can stand in a row, at the first tick and the last.
     #[test]
-    fn drift_at_the_largest_tick(rt: HostRuntime) -> Result<(), Fail> {
+    fn drift_at_the_largest_tick(rt: HostRuntime) {
         let low = -2147483648;
         let high = 2147483647;
         let rows = [
@@ -137,97 +105,95 @@ mod tests {
                 slope: 1,
             },
         ];
-        given(&rt, drifted(&rows, 0, 0), high)?;
-        given(&rt, drifted(&rows, 0, 1), -1)?;
-        given(&rt, drifted(&rows, 0, 2000000000), low)?;
-        given(&rt, drifted(&rows, 1, 0), low)?;
-        given(&rt, drifted(&rows, 1, 2000000000), low)?;
-        given(&rt, drifted(&rows, 2, 2000000000), high)?;
-        given(&rt, drifted(&rows, 3, 1999999999), -1)?;
-        given(&rt, drifted(&rows, 3, 2000000000), 0)
+        assert_eq!(rt; drifted(&rows, 0, 0), Ok(high));
+        assert_eq!(rt; drifted(&rows, 0, 1), Ok(-1));
+        assert_eq!(rt; drifted(&rows, 0, 2000000000), Ok(low));
+        assert_eq!(rt; drifted(&rows, 1, 0), Ok(low));
+        assert_eq!(rt; drifted(&rows, 1, 2000000000), Ok(low));
+        assert_eq!(rt; drifted(&rows, 2, 2000000000), Ok(high));
+        assert_eq!(rt; drifted(&rows, 3, 1999999999), Ok(-1));
+        assert_eq!(rt; drifted(&rows, 3, 2000000000), Ok(0));
     }
 
     #[test]
-    fn drift_refusals(rt: HostRuntime) -> Result<(), Fail> {
+    fn drift_refusals(rt: HostRuntime) {
         let rows = [Rate { start: 1, slope: 0 }; 17];
-        refused(&rt, drifted(&rows[0..0], 0, 0), 30, 0)?;
-        refused(&rt, drifted(&rows, 0, 0), 30, 16)?;
-        given(&rt, drifted(&rows[0..16], 15, 0), 1)?;
-        refused(&rt, drifted(&rows[0..2], 2, 2000000001), 34, 0)?;
-        refused(&rt, drifted(&rows[0..2], 1, 2000000001), 35, 0)
+        assert_eq!(rt; drifted(&rows[0..0], 0, 0), Err(Fault::new(30, 0)));
+        assert_eq!(rt; drifted(&rows, 0, 0), Err(Fault::new(30, 16)));
+        assert_eq!(rt; drifted(&rows[0..16], 15, 0), Ok(1));
+        assert_eq!(rt; drifted(&rows[0..2], 2, 2000000001), Err(Fault::new(34, 0)));
+        assert_eq!(rt; drifted(&rows[0..2], 1, 2000000001), Err(Fault::new(35, 0)));
     }
 
     #[test]
-    fn trace_equal_ticks_and_gaps(rt: HostRuntime) -> Result<(), Fail> {
+    fn trace_equal_ticks_and_gaps(rt: HostRuntime) {
         let rows = [at(5, 1, 10), at(5, 1, 11), at(7, 0, 3), at(9, 1, -12)];
-        given(&rt, traced(&rows, 1, 4), 0)?;
-        given(&rt, traced(&rows, 1, 5), 11)?;
-        given(&rt, traced(&rows, 1, 8), 11)?;
-        given(&rt, traced(&rows, 1, 9), -12)?;
-        given(&rt, traced(&rows, 0, 2000000000), 3)?;
-        given(&rt, traced(&rows, 15, 9), 0)?;
-        given(&rt, traced(&rows[0..0], 1, 9), 0)?;
-        refused(&rt, traced(&rows, 16, 9), 34, 0)?;
-        refused(&rt, traced(&rows, 1, 2000000001), 35, 0)
+        assert_eq!(rt; traced(&rows, 1, 4), Ok(0));
+        assert_eq!(rt; traced(&rows, 1, 5), Ok(11));
+        assert_eq!(rt; traced(&rows, 1, 8), Ok(11));
+        assert_eq!(rt; traced(&rows, 1, 9), Ok(-12));
+        assert_eq!(rt; traced(&rows, 0, 2000000000), Ok(3));
+        assert_eq!(rt; traced(&rows, 15, 9), Ok(0));
+        assert_eq!(rt; traced(&rows[0..0], 1, 9), Ok(0));
+        assert_eq!(rt; traced(&rows, 16, 9), Err(Fault::new(34, 0)));
+        assert_eq!(rt; traced(&rows, 1, 2000000001), Err(Fault::new(35, 0)));
     }
 
     #[test]
-    fn trace_many_rows(rt: HostRuntime) -> Result<(), Fail> {
+    fn trace_many_rows(rt: HostRuntime) {
         let rows = [at(3, 2, 8); 1025];
-        given(&rt, traced(&rows[0..1024], 2, 3), 8)?;
-        given(&rt, traced(&rows[0..1024], 3, 3), 0)?;
-        refused(&rt, traced(&rows, 2, 3), 31, 1024)
+        assert_eq!(rt; traced(&rows[0..1024], 2, 3), Ok(8));
+        assert_eq!(rt; traced(&rows[0..1024], 3, 3), Ok(0));
+        assert_eq!(rt; traced(&rows, 2, 3), Err(Fault::new(31, 1024)));
     }
 
     // A full table before its only tick, and a table with too many rows of which each is wrong.
     #[test]
-    fn trace_full_and_past_full(rt: HostRuntime) -> Result<(), Fail> {
-        given(&rt, traced(&[at(3, 2, 8); 1024], 2, 2), 0)?;
-        refused(&rt, traced(&[at(9, 99, 0); 1025], 2, 3), 31, 1024)
+    fn trace_full_and_past_full(rt: HostRuntime) {
+        assert_eq!(rt; traced(&[at(3, 2, 8); 1024], 2, 2), Ok(0));
+        assert_eq!(rt;
+            traced(&[at(9, 99, 0); 1025], 2, 3),
+            Err(Fault::new(31, 1024))
+        );
     }
 
     // 1,024 samples at ticks 10, 20 and so on, of channels 0 and 1 in turn.
     fn in_turn() -> [Sample; 1024] {
-        let mut rows = [at(0, 0, 0); 1024];
-        for i in 0..1024usize {
-            rows[i] = at(10 * i as u64 + 10, i as u64 % 2, i as i32 + 1);
-        }
-        rows
+        array::from_fn(|i| at(10 * i as u64 + 10, i as u64 % 2, i as i32 + 1))
     }
 
     // Between samples, on them and past them.
     #[test]
-    fn trace_finds_each_of_many(rt: HostRuntime) -> Result<(), Fail> {
+    fn trace_finds_each_of_many(rt: HostRuntime) {
         let rows = in_turn();
-        given(&rt, traced(&rows, 0, 9), 0)?;
-        given(&rt, traced(&rows, 0, 10), 1)?;
-        given(&rt, traced(&rows, 1, 19), 0)?;
-        given(&rt, traced(&rows, 1, 20), 2)?;
-        given(&rt, traced(&rows, 0, 5129), 511)?;
-        given(&rt, traced(&rows, 0, 5130), 513)?;
-        given(&rt, traced(&rows, 1, 10239), 1022)?;
-        given(&rt, traced(&rows, 1, 10240), 1024)?;
-        given(&rt, traced(&rows, 0, 2000000000), 1023)
+        assert_eq!(rt; traced(&rows, 0, 9), Ok(0));
+        assert_eq!(rt; traced(&rows, 0, 10), Ok(1));
+        assert_eq!(rt; traced(&rows, 1, 19), Ok(0));
+        assert_eq!(rt; traced(&rows, 1, 20), Ok(2));
+        assert_eq!(rt; traced(&rows, 0, 5129), Ok(511));
+        assert_eq!(rt; traced(&rows, 0, 5130), Ok(513));
+        assert_eq!(rt; traced(&rows, 1, 10239), Ok(1022));
+        assert_eq!(rt; traced(&rows, 1, 10240), Ok(1024));
+        assert_eq!(rt; traced(&rows, 0, 2000000000), Ok(1023));
     }
 
     #[test]
-    fn trace_wrong_rows(rt: HostRuntime) -> Result<(), Fail> {
+    fn trace_wrong_rows(rt: HostRuntime) {
         let rows = [at(5, 0, 1), at(4, 0, 1), at(4, 16, 1)];
-        refused(&rt, traced(&rows, 0, 0), 32, 2)?;
-        refused(&rt, traced(&rows[0..2], 0, 0), 33, 1)?;
-        refused(&rt, traced(&[at(2000000001, 0, 1)], 0, 0), 32, 0)?;
-        given(&rt, traced(&[at(2000000000, 15, 1)], 15, 2000000000), 1)
+        assert_eq!(rt; traced(&rows, 0, 0), Err(Fault::new(32, 2)));
+        assert_eq!(rt; traced(&rows[0..2], 0, 0), Err(Fault::new(33, 1)));
+        assert_eq!(rt;
+            traced(&[at(2000000001, 0, 1)], 0, 0),
+            Err(Fault::new(32, 0))
+        );
+        assert_eq!(rt; traced(&[at(2000000000, 15, 1)], 15, 2000000000), Ok(1));
     }
 
     // The first tick below that of the row before it is the last row's.
     #[test]
-    fn trace_falls_late(rt: HostRuntime) -> Result<(), Fail> {
-        refused(
-            &rt,
-            traced(&[at(5, 0, 1), at(5, 1, 1), at(6, 0, 1), at(5, 0, 1)], 0, 0),
-            33,
-            3,
-        )
+    fn trace_falls_late(rt: HostRuntime) {
+        let rows = [at(5, 0, 1), at(5, 1, 1), at(6, 0, 1), at(5, 0, 1)];
+        assert_eq!(rt; traced(&rows, 0, 0), Err(Fault::new(33, 3)));
     }
 
     #[test]

@@ -1,8 +1,7 @@
 // A host of one's own, as docs/HOSTS.md shows it: one channel, which gives the same value at every tick.
-ghost use Rattle.std.specs.Prelude.{ℕ, ℤ};
 ghost use Rattle.std.proofs.Common.{leb-true, refl};
 
-use host::Host;
+use host::{Host, check};
 use script::fault::Fault;
 
 #[derive(Drop)]
@@ -24,12 +23,7 @@ impl Host for Steady {
     }
 
     fn reading(&self, channel: u8, tick: u32) -> Result<i32, Fault> {
-        if channel >= 1 {
-            return Err(Fault::new(34, 0));
-        }
-        if tick > 2000000000 {
-            return Err(Fault::new(35, 0));
-        }
+        check(self.channels(), channel, tick)?;
         Ok(self.level)
     }
 }

@@ -1,18 +1,12 @@
-use Rattle.std.proofs.Common.{◌-◌, ◌≤◌, length, take, arith, rules}
-use Rattle.host.proofs.Samples.{one_back, none_later}
+use Rattle.std.proofs.Common.{◌≡◌, ◌∙◌, rules}
+use Rattle.std.specs.Option.{option_copied, option_map_or}
+use Rattle.host.specs.declared.table.Sample.{Sample}
 use Rattle.host.specs.Traces.{before_first}
+use Rattle.host.proofs.Samples.{looked_up}
 use Rattle.host.proofs.trace.Trace.last.Goals as goal
 
-pub loop-i-init : goal.loop-i-init
-loop-i-init c =
-    let r = c.upto-i.result in
-    let n = c.args.self.now.len in
-    let long : n ≤ length c.args.self.now.samples = omega (arith, c.args.self.now.long, c.args.self.now.few) in
-    let within = c.upto-i.ensures.within in
-    (within, none_later c.args.channel c.args.tick (before_first (take n c.args.self.now.samples) c.args.channel) c.args.self.now.samples r (n - r) n (omega arith) long c.upto-i.ensures.later)
-
-pub returns-then-s-tick : goal.returns-then-s-tick
-returns-then-s-tick c = search (rules, one_back)
-
-pub loop-i-preserved : goal.loop-i-preserved
-loop-i-preserved c = (omega arith, search (rules, one_back))
+pub returns : goal.returns
+returns c =
+    let mapped : c.map_or.result ≡ option_map_or (λ (s : Sample). s.value) (option_copied c.latest.result) before_first = search rules in
+    let found = looked_up c.args.channel c.args.tick c.args.self.now.samples.items c.upto.result.now (option_copied c.latest.result) c.upto.ensures c.latest.ensures in
+    search (rules, mapped ∙ found)
