@@ -1,27 +1,15 @@
--- Parentheses in an array. Assumes nothing.
-use Rattle.std.proofs.Common.{◌≡◌, ◌+◌, ◌-◌, ◌<◌, ◌≤◌, Bool, true, false, cond, ltb, ◌∷◌, length, get_or, set, ℤ, sym, ap, ◌∙◌, arith}
-use Rattle.std.proofs.lemmas.Bool.{lt-ltb, le-ltb}
-use Rattle.list.specs.Stacks.{stacked}
-use Rattle.list.proofs.Stacking.{push, pop, length_stacked}
+-- The end of a parenthesis. Assumes nothing.
+use Rattle.std.specs.Option.{option_to_list}
+use Rattle.std.proofs.Common.{◌≡◌, List, ◌++◌, ℤ, Some, None, reverse, sym, ap, ◌∙◌}
+use Rattle.list.specs.Entries.{last}
+use Rattle.list.proofs.Fixing.{last_none, reverse_popped}
 use Rattle.evaluate.specs.declared.level.Level.{Level}
-use Rattle.evaluate.specs.declared.level.Levels.{Levels}
-use Rattle.evaluate.specs.Walk.{At, on, blank, factor, finish, opened, closed, at_of}
+use Rattle.evaluate.specs.Walk.{on, factor, closed}
 
-module _ (s : Levels) where
-  abbrev Opened : Bool → At
-  Opened b = cond b (on blank (s.here ∷ stacked blank s.outer s.depth)) (at_of s)
+pub closes : (v : ℤ) (here k : Level) (ls ks : List Level) → ls ≡ ks ++ option_to_list (Some k) → on (factor v k) (reverse ks) ≡ closed v here (reverse ls)
+closes v here k ls ks e = sym (ap (closed v here) (reverse_popped ls ks (Some k) e))
 
-  pub opens : s.depth < 16 → on blank (stacked blank (set s.outer s.depth s.here) (s.depth + 1)) ≡ opened s.here (stacked blank s.outer s.depth)
-  opens h =
-      let e : ltb (length (stacked blank s.outer s.depth)) 16 ≡ true = ap (λ n. ltb n 16) (length_stacked blank s.outer s.depth) ∙ lt-ltb s.depth 16 h in
-      ap (on blank) (push blank s.outer s.depth s.here (omega (arith, s.long))) ∙ ap Opened (sym e)
-
-  pub opens_not : 16 ≤ s.depth → at_of s ≡ opened s.here (stacked blank s.outer s.depth)
-  opens_not h =
-      let e : ltb (length (stacked blank s.outer s.depth)) 16 ≡ false = ap (λ n. ltb n 16) (length_stacked blank s.outer s.depth) ∙ le-ltb s.depth 16 h in
-      ap Opened (sym e)
-
-  pub closes : (l : Level) (v : ℤ) → 0 < s.depth → l ≡ factor v (get_or s.outer (s.depth - 1) blank) → v ≡ finish s.here → on l (stacked blank s.outer (s.depth - 1)) ≡ closed (finish s.here) s.here (stacked blank s.outer s.depth)
-  closes l v h e f =
-      ap (λ x. on x (stacked blank s.outer (s.depth - 1))) (e ∙ ap (λ x. factor x (get_or s.outer (s.depth - 1) blank)) f)
-      ∙ ap (closed (finish s.here) s.here) (sym (pop blank s.outer s.depth h))
+pub closes_none : (v : ℤ) (here : Level) (ls ks : List Level) → None ≡ last ls → ls ≡ ks ++ option_to_list None → on here (reverse ks) ≡ closed v here (reverse ls)
+closes_none v here ls ks e h =
+    let none = last_none ls (sym e) in
+    ap (on here) (sym (reverse_popped ls ks None h) ∙ ap reverse none) ∙ sym (ap (λ xs. closed v here (reverse xs)) none)

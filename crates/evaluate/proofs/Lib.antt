@@ -1,4 +1,2 @@
 pub mod Levelled
-pub mod Named
-pub mod Walked
 pub mod Worth

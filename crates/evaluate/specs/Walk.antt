@@ -1,7 +1,6 @@
 -- A walk over the rows of an expression, from left to right. Of this file only `IsValueOf` need be believed: it says what the walk comes
 -- to on the rows of an expression. Assumes nothing.
-use Rattle.std.specs.Prelude.{◌≡◌, ℕ, true, cond, List, [], ◌∷◌, length, ℤ, pos, ◌+ℤ◌, ◌-ℤ◌, ◌*ℤ◌, int_lt, nat_lt}
-use Rattle.list.specs.Stacks.{stacked}
+use Rattle.std.specs.Prelude.{◌≡◌, ℕ, true, cond, List, [], ◌∷◌, length, ℤ, pos, ◌+ℤ◌, ◌-ℤ◌, ◌*ℤ◌, int_lt, nat_lt, reverse, fold, Option, Some, None}
 use Rattle.script.specs.declared.row.Role.{Role}
 use Rattle.script.specs.declared.row.Role.TheVariants as role
 use Rattle.script.specs.declared.row.Row.{Row}
@@ -10,8 +9,8 @@ use Rattle.script.specs.Syntax.{Expr}
 use Rattle.script.specs.Written.{text_expr}
 use Rattle.script.specs.Values.{wrapped, quotient, truth, equal, value}
 use Rattle.checker.specs.Limits.{shallow}
-use Rattle.evaluate.specs.declared.level.Side.{Side}
-use Rattle.evaluate.specs.declared.level.Side.TheVariants as side
+use Rattle.evaluate.specs.declared.level.Comparison.{Comparison}
+use Rattle.evaluate.specs.declared.level.Comparison.TheVariants as comparison
 use Rattle.evaluate.specs.declared.level.Sign.{Sign}
 use Rattle.evaluate.specs.declared.level.Sign.TheVariants as sign
 use Rattle.evaluate.specs.declared.level.By.{By}
@@ -19,39 +18,46 @@ use Rattle.evaluate.specs.declared.level.By.TheVariants as by
 use Rattle.evaluate.specs.declared.level.Level.{Level}
 use Rattle.evaluate.specs.declared.level.Levels.{Levels}
 
-abbrev pub level : Side → ℤ → Sign → ℤ → By → Level
-level c s g p b = record { side = c; sum = s; sign = g; part = p; by = b }
+-- a left side and its comparison, a sum and the sign after it, a part of a term and the operator after it
+abbrev pub level : Option (ℤ × Comparison) → Option (ℤ × Sign) → ℤ → Option By → Level
+level c s p b = record { left = c; sum = s; part = p; by = b }
 
 -- where an expression begins
 abbrev pub blank : Level
-blank = level side.Alone (pos 0) sign.First (pos 0) by.First
+blank = level None None (pos 0) None
 
-abbrev pub applied : By → ℤ → ℤ → ℤ
-applied by.First p v = v
-applied by.Times p v = wrapped (p *ℤ v)
-applied by.Over p v = wrapped (quotient p v)
+abbrev pub applied : Option By → ℤ → ℤ → ℤ
+applied None p v = v
+applied (Some by.Times) p v = wrapped (p *ℤ v)
+applied (Some by.Over) p v = wrapped (quotient p v)
 
 -- a factor
 abbrev pub factor : ℤ → Level → Level
-factor v l = level l.side l.sum l.sign (applied l.by l.part v) by.First
+factor v l = level l.left l.sum (applied l.by l.part v) None
 
-abbrev pub summed : Sign → ℤ → ℤ → ℤ
-summed sign.First s p = p
-summed sign.Plus s p = wrapped (s +ℤ p)
-summed sign.Minus s p = wrapped (s -ℤ p)
+abbrev pub signed : Sign → ℤ → ℤ → ℤ
+signed sign.Plus s p = wrapped (s +ℤ p)
+signed sign.Minus s p = wrapped (s -ℤ p)
+
+abbrev pub summed : Option (ℤ × Sign) → ℤ → ℤ
+summed None p = p
+summed (Some s) p = signed s.1 s.0 p
 
 -- the sum so far, this term included
 abbrev pub total : Level → ℤ
-total l = summed l.sign l.sum l.part
+total l = summed l.sum l.part
 
-abbrev pub compared : Side → ℤ → ℤ
-compared side.Alone v = v
-compared (side.Less u) v = truth (int_lt u v)
-compared (side.Same u) v = truth (equal u v)
+abbrev pub holds : Comparison → ℤ → ℤ → ℤ
+holds comparison.Less u v = truth (int_lt u v)
+holds comparison.Same u v = truth (equal u v)
+
+abbrev pub compared : Option (ℤ × Comparison) → ℤ → ℤ
+compared None v = v
+compared (Some c) v = holds c.1 c.0 v
 
 -- the value at the end of an expression
 abbrev pub finish : Level → ℤ
-finish l = compared l.side (total l)
+finish l = compared l.left (total l)
 
 -- the level, and those around it
 pub record At : Type 0 where
@@ -116,28 +122,30 @@ does role.Negate v l ls = on l ls
 does role.Negated v l ls = on (factor (wrapped (pos 0 -ℤ v)) l) ls
 does role.ParenOpen v l ls = opened l ls
 does role.ParenClose v l ls = closed (finish l) l ls
-does role.Times v l ls = on (level l.side l.sum l.sign l.part by.Times) ls
-does role.Over v l ls = on (level l.side l.sum l.sign l.part by.Over) ls
-does role.Plus v l ls = on (level l.side (total l) sign.Plus (pos 0) by.First) ls
-does role.Minus v l ls = on (level l.side (total l) sign.Minus (pos 0) by.First) ls
-does role.Less v l ls = on (level (side.Less (total l)) (pos 0) sign.First (pos 0) by.First) ls
-does role.Same v l ls = on (level (side.Same (total l)) (pos 0) sign.First (pos 0) by.First) ls
+does role.Times v l ls = on (level l.left l.sum l.part (Some by.Times)) ls
+does role.Over v l ls = on (level l.left l.sum l.part (Some by.Over)) ls
+does role.Plus v l ls = on (level l.left (Some (total l, sign.Plus)) (pos 0) None) ls
+does role.Minus v l ls = on (level l.left (Some (total l, sign.Minus)) (pos 0) None) ls
+does role.Less v l ls = on (level (Some (total l, comparison.Less)) None (pos 0) None) ls
+does role.Same v l ls = on (level (Some (total l, comparison.Same)) None (pos 0) None) ls
 
 -- the value of a row's name or number, where names have the values v
 abbrev pub operand : (ℕ → ℤ) → Role → ℕ → ℤ
 operand v r n = cond (is r role.Operand) (v n) (wrapped (pos n))
 
+-- the level and those around it after a row
+abbrev pub after : (ℕ → ℤ) → At → Row → At
+after v a r = does r.role (operand v r.role r.value) a.here a.outer
+
 abbrev pub walk : (ℕ → ℤ) → List Row → Level → List Level → ℤ
-walk v [] l ls = finish l
-walk v (r ∷ rs) l ls =
-    walk v rs (does r.role (operand v r.role r.value) l ls).here (does r.role (operand v r.role r.value) l ls).outer
+walk v rs l ls = finish (fold (after v) (on l ls) rs).here
 
 -- the value of the rows of an expression
 abbrev pub worth : (ℕ → ℤ) → List Row → ℤ
 worth v rs = walk v rs blank []
 
 abbrev pub at_of : Levels → At
-at_of s = on s.here (stacked blank s.outer s.depth)
+at_of s = on s.here (reverse s.outer.items)
 
 -- z is the value of each expression that the rows are, where names have the values v; at most 16 of its parentheses are open at once
 abbrev pub IsValueOf : (ℕ → ℤ) → List Row → ℤ → Type 0

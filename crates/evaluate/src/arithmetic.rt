@@ -1,4 +1,4 @@
-// The operations on values, each total.
+// The operations on values, each total: one function for each, since each keeps to another definition.
 ghost use Rattle.std.specs.Prelude.{◌≡◌, pos, ◌+ℤ◌, ◌-ℤ◌, ◌*ℤ◌, int_lt};
 ghost use Rattle.script.specs.Values.{wrapped, quotient, truth, equal};
 
@@ -30,16 +30,16 @@ pub(crate) fn divide(a: i32, b: i32) -> i32
     a.wrapping_div(b)
 }
 
-pub(crate) fn is_less(a: i32, b: i32) -> i32
+pub(crate) fn less(a: i32, b: i32) -> i32
     ensures { result ≡ truth (int_lt a b) }
 {
-    if a < b { 1 } else { 0 }
+    i32::from(a < b)
 }
 
-pub(crate) fn is_same(a: i32, b: i32) -> i32
+pub(crate) fn same(a: i32, b: i32) -> i32
     ensures { result ≡ truth (equal a b) }
 {
-    if a == b { 1 } else { 0 }
+    i32::from(a == b)
 }
 
 // The value of a number's digits.

@@ -1,122 +1,81 @@
 // The walk over an expression's rows.
-ghost use Rattle.std.specs.Prelude.{◌≡◌, ℕ, ◌-◌, cond, List, [], length, pos};
+ghost use Rattle.std.specs.Prelude.{◌≡◌, [], pos, None, Some};
 ghost use Rattle.script.specs.Unbroken.{valued};
-ghost use Rattle.evaluate.specs.Walk.{applied, factor as factor_of, summed, total as total_of, compared, finish as finish_of, blank, on, opened, closed, does, operand as operand_of, worth, at_of, IsValueOf};
+ghost use Rattle.evaluate.specs.Walk.{level, factor as factor_of, total as total_of, finish as finish_of, blank, on, opened, closed, does, operand as operand_of, worth, at_of, IsValueOf};
 
 use crate::arithmetic;
-use crate::level::{By, Level, Levels, Side, Sign};
+use crate::level::{By, Comparison, Level, Levels, Sign};
+use list::fixed::Fixed;
 use memory::Memory;
 use script::row::{Role, Row};
 
-impl By {
-    fn apply(self, part: i32, value: i32) -> i32
-        ensures { result ≡ applied self part value }
-    {
-        match self {
-            By::First => value,
-            By::Times => arithmetic::multiply(part, value),
-            By::Over => arithmetic::divide(part, value),
-        }
-    }
-}
-
-impl Sign {
-    fn apply(self, sum: i32, part: i32) -> i32
-        ensures { result ≡ summed self sum part }
-    {
-        match self {
-            Sign::First => part,
-            Sign::Plus => arithmetic::add(sum, part),
-            Sign::Minus => arithmetic::subtract(sum, part),
-        }
-    }
-}
-
-impl Side {
-    fn compare(self, value: i32) -> i32
-        ensures { result ≡ compared self value }
-    {
-        match self {
-            Side::Alone => value,
-            Side::Less(left) => arithmetic::is_less(left, value),
-            Side::Same(left) => arithmetic::is_same(left, value),
-        }
-    }
-}
-
 impl Level {
-    fn blank() -> Level
-        ensures { result ≡ blank }
-    {
-        Level {
-            side: Side::Alone,
-            sum: 0,
-            sign: Sign::First,
-            part: 0,
-            by: By::First,
-        }
-    }
-
+    // A factor goes into this term.
     fn factor(self, value: i32) -> Level
         ensures { result ≡ factor_of value self }
     {
+        let part = match self.by {
+            None => value,
+            Some(By::Times) => arithmetic::multiply(self.part, value),
+            Some(By::Over) => arithmetic::divide(self.part, value),
+        };
         Level {
-            side: self.side,
-            sum: self.sum,
-            sign: self.sign,
-            part: self.by.apply(self.part, value),
-            by: By::First,
+            part,
+            by: None,
+            ..self
         }
     }
 
+    // The sum, with this term.
     fn total(self) -> i32
         ensures { result ≡ total_of self }
     {
-        self.sign.apply(self.sum, self.part)
+        match self.sum {
+            None => self.part,
+            Some((sum, Sign::Plus)) => arithmetic::add(sum, self.part),
+            Some((sum, Sign::Minus)) => arithmetic::subtract(sum, self.part),
+        }
     }
 
     fn finish(self) -> i32
         ensures { result ≡ finish_of self }
     {
-        self.side.compare(self.total())
+        let right = self.total();
+        match self.left {
+            None => right,
+            Some((left, Comparison::Less)) => arithmetic::less(left, right),
+            Some((left, Comparison::Same)) => arithmetic::same(left, right),
+        }
     }
 
     // The next factor goes into this term.
     fn next_factor(self, by: By) -> Level
-        ensures { result ≡ record { side = self.side; sum = self.sum; sign = self.sign; part = self.part; by = by } }
+        ensures { result ≡ level self.left self.sum self.part (Some by) }
     {
         Level {
-            side: self.side,
-            sum: self.sum,
-            sign: self.sign,
-            part: self.part,
-            by,
+            by: Some(by),
+            ..self
         }
     }
 
     // The next term goes into the sum so far.
     fn next_term(self, sign: Sign) -> Level
-        ensures { result ≡ record { side = self.side; sum = total_of self; sign = sign; part = pos 0; by = By.First } }
+        ensures { result ≡ level self.left (Some (total_of self, sign)) (pos 0) None }
     {
         Level {
-            side: self.side,
-            sum: self.total(),
-            sign,
-            part: 0,
-            by: By::First,
+            left: self.left,
+            sum: Some((self.total(), sign)),
+            ..Level::default()
         }
     }
 
     // The other side of a comparison.
-    fn other_side(side: Side) -> Level
-        ensures { result ≡ record { side = side; sum = pos 0; sign = Sign.First; part = pos 0; by = By.First } }
+    fn other_side(self, comparison: Comparison) -> Level
+        ensures { result ≡ level (Some (total_of self, comparison)) None (pos 0) None }
     {
         Level {
-            side,
-            sum: 0,
-            sign: Sign::First,
-            part: 0,
-            by: By::First,
+            left: Some((self.total(), comparison)),
+            ..Level::default()
         }
     }
 }
@@ -125,31 +84,26 @@ impl Levels {
     fn new() -> Levels
         ensures { at_of result ≡ on blank [] }
     {
-        let blank = Level::blank();
         Levels {
-            here: blank,
-            outer: [blank; 16],
-            depth: 0,
+            here: Level::default(),
+            outer: Fixed::new(),
         }
     }
 
-    // A parenthesis. No script has more than 16 open, so what would not fit never comes.
+    // A parenthesis. No script has more open than there is room for, so what would not fit never comes.
     fn open(&mut self)
         ensures { at_of self.new ≡ opened (at_of self.old).here (at_of self.old).outer }
     {
-        if self.depth < 16 {
-            self.outer[self.depth] = self.here;
-            self.depth += 1;
-            self.here = Level::blank();
+        if self.outer.push(self.here) {
+            self.here = Level::default();
         }
     }
 
     fn close(&mut self)
         ensures { at_of self.new ≡ closed (finish_of (at_of self.old).here) (at_of self.old).here (at_of self.old).outer }
     {
-        if self.depth > 0 {
-            self.depth -= 1;
-            self.here = self.outer[self.depth].factor(self.here.finish());
+        if let Some(level) = self.outer.pop() {
+            self.here = level.factor(self.here.finish());
         }
     }
 
@@ -166,34 +120,43 @@ impl Levels {
             Role::Over => self.here = self.here.next_factor(By::Over),
             Role::Plus => self.here = self.here.next_term(Sign::Plus),
             Role::Minus => self.here = self.here.next_term(Sign::Minus),
-            Role::Less => self.here = Level::other_side(Side::Less(self.here.total())),
-            Role::Same => self.here = Level::other_side(Side::Same(self.here.total())),
+            Role::Less => self.here = self.here.other_side(Comparison::Less),
+            Role::Same => self.here = self.here.other_side(Comparison::Same),
             _ => {}
         }
     }
 }
 
-// The value of a name by its number: a current cell of the memory, else a local.
-fn name_value<M: Memory>(name: u32, cells: usize, memory: &M, locals: &[i32; 64]) -> i32
-    ensures { result ≡ valued cells (M.Memory.model.means (M.Memory.state memory.now)).current locals.now name }
-{
-    if (name as usize) < cells {
-        return match memory.get(name) {
-            Ok(value) => value,
-            Err(_) => 0,
-        };
-    }
-    let i = name as usize - cells;
-    if i < 64 { locals[i] } else { 0 }
+// What the names of an expression stand for, by their numbers: the current cells of a memory, and then the
+// locals.
+#[derive_where(Clone, Copy)]
+struct Values<'a, M> {
+    cells: usize,
+    memory: &'a M,
+    locals: &'a [i32; 64],
 }
 
-// The value of a row's name or number.
-fn operand<M: Memory>(row: &Row, cells: usize, memory: &M, locals: &[i32; 64]) -> i32
-    ensures { result ≡ operand_of (valued cells (M.Memory.model.means (M.Memory.state memory.now)).current locals.now) row.now.role row.now.value }
-{
-    match row.role {
-        Role::Operand => name_value(row.value, cells, memory, locals),
-        _ => arithmetic::literal(row.value),
+impl<M: Memory> Values<'_, M> {
+    // The value of a name by its number.
+    fn of_name(&self, name: u32) -> i32
+        ensures { result ≡ valued self.now.cells (M.Memory.model.means (M.Memory.state self.now.memory.now)).current self.now.locals.now name }
+    {
+        let i = name as usize;
+        if i < self.cells {
+            return self.memory.get(name).unwrap_or(0);
+        }
+        let locals = self.locals;
+        locals.get(i - self.cells).copied().unwrap_or(0)
+    }
+
+    // The value of a row's name or number.
+    fn of_row(&self, row: &Row) -> i32
+        ensures { result ≡ operand_of (valued self.now.cells (M.Memory.model.means (M.Memory.state self.now.memory.now)).current self.now.locals.now) row.now.role row.now.value }
+    {
+        match row.role {
+            Role::Operand => self.of_name(row.value),
+            _ => arithmetic::literal(row.value),
+        }
     }
 }
 
@@ -202,9 +165,14 @@ pub fn evaluate<M: Memory>(rows: &[Row], cells: usize, memory: &M, locals: &[i32
     ensures walked { result ≡ worth (valued cells (M.Memory.model.means (M.Memory.state memory.now)).current locals.now) rows.now }
     ensures value { IsValueOf (valued cells (M.Memory.model.means (M.Memory.state memory.now)).current locals.now) rows.now result }
 {
+    let values = Values {
+        cells,
+        memory,
+        locals,
+    };
     let mut levels = Levels::new();
     for row in rows {
-        levels.take(row.role, operand(row, cells, memory, locals));
+        levels.take(row.role, values.of_row(row));
     }
     levels.here.finish()
 }

@@ -1,4 +1,2 @@
-pub mod Found
-pub mod Stales
 pub mod Framed
 pub mod Tidying

@@ -1,15 +1,9 @@
 -- Going past what is over, one after the other. Assumes nothing.
-use Rattle.std.proofs.Common.{◌≡◌, ℕ, suc, ◌+◌, ◌-◌, ◌<◌, ◌≤◌, true, false, cond, List, length, sym, ap, ◌∙◌, arith}
-use Rattle.std.proofs.lemmas.List.{get_or_past}
+use Rattle.std.proofs.Common.{◌≡◌, ℕ, suc, ◌+◌, ◌-◌, ◌<◌, ◌≤◌, true, false, cond, List, sym, ap, ◌∙◌, arith}
 use Rattle.script.specs.declared.row.Row.{Row}
-use Rattle.place.specs.Rows.{head_of, no_row}
-use Rattle.place.specs.Places.{Left, Slip, stays, slips, slip, tidied}
+use Rattle.place.specs.Places.{Left, Slip, slip, tidied}
 
 module _ (all : List Row) where
-  -- past the last row nothing is over
-  pub past_rows : (t : Left) → length all ≤ t.spot.row → stays t ≡ slip all t
-  past_rows t h = sym (ap (λ (r : Row). slips (head_of r.role) all t) (get_or_past all t.spot.row no_row h))
-
   pub tidy_more : (i : ℕ) (t u : Left) (goal : Left) → i < 16 → record { moved = true; left = u } ≡ slip all t → tidied (16 - i) all t ≡ goal → tidied (16 - (i + 1)) all u ≡ goal
   unfolding tidied
   tidy_more i t u goal h e inv =

@@ -1,7 +1,6 @@
 -- A place in the rows, and what is over at it: the end of an if, and a repeat with no more turns. Nothing need be believed of this file.
 -- Assumes nothing.
-use Rattle.std.specs.Prelude.{ℕ, zero, suc, ◌+◌, min, Bool, true, false, cond, ◌&&◌, List, [], ◌∷◌, length, Some, None, Option, nat_lt, slice_index_or, slice_set}
-use Rattle.list.specs.Stacks.{stacked}
+use Rattle.std.specs.Prelude.{ℕ, zero, suc, ◌+◌, min, Bool, true, false, cond, ◌&&◌, List, [], ◌∷◌, length, Some, None, Option, nat_lt, slice_index_or, slice_set, fold, map, filter, count_by, reverse}
 use Rattle.script.specs.declared.row.Role.TheVariants as role
 use Rattle.script.specs.declared.row.Row.{Row}
 use Rattle.script.specs.Roles.{is}
@@ -26,24 +25,16 @@ never = 4294967295
 abbrev pub of_name : List ℕ → ℕ → ℕ
 of_name o x = slice_index_or o x never
 
--- the first power call among c and those of the readings behind the names that the rows read
-abbrev pub first_row : List ℕ → Row → ℕ → ℕ
-first_row o r c = cond (is r.role role.Operand) (min c (of_name o r.value)) c
-
-abbrev pub first_from : List ℕ → ℕ → List Row → ℕ
-first_from o c [] = c
-first_from o c (r ∷ rs) = first_from o (first_row o r c) rs
-
+-- the first power call among those of the readings behind the names that the rows read
 abbrev pub first_in : List ℕ → List Row → ℕ
-first_in o rs = first_from o never rs
+first_in o rs = fold min never (map (λ (r : Row). of_name o r.value) (filter (λ (r : Row). is r.role role.Operand) rs))
 
 -- a name that is assigned in the branches of an if gets the readings behind its condition, of which the first falls in the call c
 abbrev pub join_row : ℕ → Row → List ℕ → List ℕ
 join_row c r o = cond (is r.role role.Target) (slice_set o r.value (min (of_name o r.value) c)) o
 
 abbrev pub join_rows : ℕ → List Row → List ℕ → List ℕ
-join_rows c [] o = o
-join_rows c (r ∷ rs) o = join_rows c rs (join_row c r o)
+join_rows c rs o = fold (λ p r. join_row c r p) o rs
 
 -- whether a row is a use: of a name declared fresh in an expression, of any name in a together
 abbrev pub counts : List Bool → Row → Bool
@@ -54,8 +45,7 @@ abbrev pub is_stale : List Bool → List ℕ → ℕ → Row → Bool
 is_stale fresh o n r = counts fresh r && nat_lt (of_name o r.value) n
 
 abbrev pub stale_in : List Bool → List ℕ → ℕ → List Row → ℕ
-stale_in fresh o n [] = 0
-stale_in fresh o n (r ∷ rs) = cond (is_stale fresh o n r) (suc (stale_in fresh o n rs)) (stale_in fresh o n rs)
+stale_in fresh o n rs = count_by (is_stale fresh o n) rs
 
 -- ---- places
 
@@ -68,7 +58,7 @@ abbrev pub spot : ℕ → List Frame → Spot
 spot i fs = record { row = i; frames = fs }
 
 abbrev pub spot_of : Place → Spot
-spot_of p = spot p.row (stacked (Turn 0 0) p.frames p.depth)
+spot_of p = spot p.row (reverse p.frames.items)
 
 -- at most 16 braces are open
 abbrev pub pushed : Frame → List Frame → List Frame

@@ -1,6 +1,6 @@
 -- The rows of a script by what a run finds there. Nothing need be believed of this file: the runner's promises speak of scripts. Assumes
 -- nothing.
-use Rattle.std.specs.Prelude.{ℕ, suc, ◌+◌, ◌-◌, Bool, cond, ◌&&◌, ◌||◌, List, [], ◌∷◌, length, drop, Some, None, Option, ◌==◌, nat_le, slice_index_or, slice_range}
+use Rattle.std.specs.Prelude.{ℕ, suc, ◌+◌, ◌-◌, Bool, cond, ◌&&◌, ◌||◌, List, [], ◌∷◌, length, drop, Some, None, Option, ◌==◌, nat_le, slice_index_or, slice_range, take_while}
 use Rattle.script.specs.declared.row.Role.{Role}
 use Rattle.script.specs.declared.row.Role.TheVariants as role
 use Rattle.script.specs.declared.row.Row.{Row}
@@ -42,8 +42,7 @@ row_at rs i = slice_index_or rs i no_row
 
 -- how many parts stand in front
 abbrev pub parts : List Row → ℕ
-parts [] = 0
-parts (r ∷ rs) = cond (part r.role) (suc (parts rs)) 0
+parts rs = length (take_while (λ (r : Row). part r.role) rs)
 
 -- how many blocks are open after a row, where d were before it; none where it closes the first
 abbrev pub depth_after : Role → ℕ → Option ℕ

@@ -3,6 +3,7 @@ ghost use Rattle.std.specs.Prelude.{◌≡◌, []};
 ghost use Rattle.place.specs.Places.{spot, spot_of, pushed, popped, top_of};
 
 use crate::types::{Frame, Place};
+use list::fixed::Fixed;
 
 impl Place {
     // At a row, with no brace open around it but main's.
@@ -11,8 +12,7 @@ impl Place {
     {
         Place {
             row,
-            frames: [Frame::Turn(0, 0); 16],
-            depth: 0,
+            frames: Fixed::new(),
         }
     }
 
@@ -20,21 +20,15 @@ impl Place {
     pub fn top(&self) -> Option<Frame>
         ensures { result ≡ top_of (spot_of self.now).frames }
     {
-        if self.depth == 0 {
-            return None;
-        }
-        Some(self.frames[self.depth - 1])
+        self.frames.last()
     }
 
-    // A brace opens, and the run goes on at the row. No script has more than 16 open.
+    // A brace opens, and the run goes on at the row. No script has more open than there is room for.
     pub fn enter(&mut self, frame: Frame, row: usize)
         ensures { spot_of self.new ≡ spot row (pushed frame (spot_of self.old).frames) }
     {
         self.go(row);
-        if self.depth < 16 {
-            self.frames[self.depth] = frame;
-            self.depth += 1;
-        }
+        self.frames.push(frame);
     }
 
     // The innermost brace closes, and the run goes on at the row.
@@ -42,9 +36,7 @@ impl Place {
         ensures { spot_of self.new ≡ spot row (popped (spot_of self.old).frames) }
     {
         self.go(row);
-        if self.depth > 0 {
-            self.depth -= 1;
-        }
+        self.frames.pop();
     }
 
     // The run goes on at the row.

@@ -27,46 +27,46 @@ pub fn head_of(role: Role) -> Head
 pub(crate) fn is_part(role: Role) -> bool
     ensures { result ≡ part role }
 {
-    match role {
+    matches!(
+        role,
         Role::Operand
-        | Role::Literal
-        | Role::Negate
-        | Role::Negated
-        | Role::ParenOpen
-        | Role::ParenClose
-        | Role::Times
-        | Role::Over
-        | Role::Plus
-        | Role::Minus
-        | Role::Less
-        | Role::Same
-        | Role::Listed
-        | Role::Comma => true,
-        _ => false,
-    }
+            | Role::Literal
+            | Role::Negate
+            | Role::Negated
+            | Role::ParenOpen
+            | Role::ParenClose
+            | Role::Times
+            | Role::Over
+            | Role::Plus
+            | Role::Minus
+            | Role::Less
+            | Role::Same
+            | Role::Listed
+            | Role::Comma
+    )
 }
 
 // Whether the role opens a block inside main.
 pub(crate) fn is_opening(role: Role) -> bool
     ensures { result ≡ opens role }
 {
-    match role {
-        Role::ThenOpen | Role::ElseOpen | Role::BodyOpen | Role::RegionOpen => true,
-        _ => false,
-    }
+    matches!(
+        role,
+        Role::ThenOpen | Role::ElseOpen | Role::BodyOpen | Role::RegionOpen
+    )
 }
 
 // Whether the role closes one.
 pub(crate) fn is_closing(role: Role) -> bool
     ensures { result ≡ closes role }
 {
-    match role {
+    matches!(
+        role,
         Role::WhenClose
-        | Role::ThenClose
-        | Role::ElseClose
-        | Role::BodyClose
-        | Role::RegionClose
-        | Role::MainClose => true,
-        _ => false,
-    }
+            | Role::ThenClose
+            | Role::ElseClose
+            | Role::BodyClose
+            | Role::RegionClose
+            | Role::MainClose
+    )
 }

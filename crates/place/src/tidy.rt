@@ -4,9 +4,11 @@ ghost use Rattle.place.specs.Places.{behind_of, spot_of, left, top_of, ends_if, 
 
 use crate::heads::head_of;
 use crate::rows::{block_end, row_at, rows_between};
-use crate::types::{Frame, Head, Oldest, Place};
+use crate::types::{Frame, Head, MAX_OPEN, Oldest, Place};
 use script::row::Row;
 
+// The place, the rows and what stands behind the names are asked for apart, and not as one struct: a run keeps the
+// three apart, so a struct of two `&mut` would be made for each call and taken apart again.
 impl Place {
     // The end of an if that closes at the row: the names assigned in its branches get the readings behind
     // its condition. Whether the innermost brace was an if's.
@@ -14,7 +16,7 @@ impl Place {
         requires { end < 2 ^ 62 }
         ensures { record { moved = result; left = left (spot_of self.new) (behind_of oldest.new) } ≡ ends_if (top_of (spot_of self.old).frames) rows.now end (left (spot_of self.old) (behind_of oldest.old)) }
     {
-        let Some(Frame::Join(from, first)) = self.top() else {
+        let Some(Frame::Join { from, first }) = self.top() else {
             return false;
         };
         oldest.join(rows_between(rows, from, end), first);
@@ -27,7 +29,7 @@ impl Place {
         requires { self.old.row < 2 ^ 62 }
         ensures { (o : List ℕ) → record { moved = result; left = left (spot_of self.new) o } ≡ ends_body (top_of (spot_of self.old).frames) (left (spot_of self.old) o) }
     {
-        let Some(Frame::Turn(0, _)) = self.top() else {
+        let Some(Frame::Turn { left: 0, .. }) = self.top() else {
             return false;
         };
         self.leave(self.row + 1);
@@ -50,11 +52,11 @@ impl Place {
         }
     }
 
-    // Goes past all that is over. Each closes a brace, and at most 16 are open.
+    // Goes past all that is over. Each closes a brace, and no more are open.
     pub fn tidy(&mut self, rows: &[Row], oldest: &mut Oldest)
         ensures { left (spot_of self.new) (behind_of oldest.new) ≡ tidied 16 rows.now (left (spot_of self.old) (behind_of oldest.old)) }
     {
-        for _ in 0..16u8 {
+        for _ in 0..MAX_OPEN {
             if !self.slip(rows, oldest) {
                 return;
             }

@@ -8,6 +8,8 @@ use Rattle.script.specs.Unbroken.{valued, is_zero}
 use Rattle.list.specs.Entries.{added, cut_back}
 use Rattle.host.specs.Readings.{read as host_read}
 use Rattle.memory.specs.declared.Spent.{Spent}
+use Rattle.memory.specs.declared.Spent.TheVariants.{Cut}
+use Rattle.memory.specs.Spent.{is_done, written}
 use Rattle.memory.specs.Calls.{Put, Open, Close, Mend}
 use Rattle.memory.specs.Model.{Model, answer, after}
 use Rattle.evaluate.specs.Walk.{worth}
@@ -51,7 +53,7 @@ left_at i p = at_spot (spot i (popped p.spot.frames)) p
 -- a call of the memory that is refused is not done, and writes nothing; in a run none is
 abbrev pub spent_by : Result Spent Fault → Spent
 spent_by (Ok s) = s
-spent_by (Err f) = record { done = false; words = 0 }
+spent_by (Err f) = Cut 0
 
 -- a host's value, or 0 where it refuses; in a run it never does
 abbrev pub or_zero : Result ℤ Fault → ℤ
@@ -103,8 +105,8 @@ module _ (m : Model) (g : Plant) where
   abbrev pub assign_rows : Looked → Stand → m.State → List Reading → ℕ → ℕ → Walked m.State
   assign_rows l p w rs i u =
       cond (nat_lt (row_at g.rows i).value g.cells)
-      (walked (spent_by (answer m w (Put (row_at g.rows i).value l.value) u)).words l.stale
-      (cond (spent_by (answer m w (Put (row_at g.rows i).value l.value) u)).done
+      (walked (written (spent_by (answer m w (Put (row_at g.rows i).value l.value) u))) l.stale
+      (cond (is_done (spent_by (answer m w (Put (row_at g.rows i).value l.value) u)))
       (stand (spot (l.end + 1) p.spot.frames) p.locals (slice_set p.oldest (row_at g.rows i).value l.first)) p)
       (after m w (Put (row_at g.rows i).value l.value) u) rs)
       (walked 0 l.stale
@@ -120,19 +122,19 @@ module _ (m : Model) (g : Plant) where
   open_rows p w rs i u =
       cond (m.means w).is_open
       (walked 0 0 (entered (frame.Close false) (i + 2) p) w rs)
-      (walked (spent_by (answer m w Open u)).words 0
-      (cond (spent_by (answer m w Open u)).done (entered (frame.Close true) (i + 2) p) p)
+      (walked (written (spent_by (answer m w Open u))) 0
+      (cond (is_done (spent_by (answer m w Open u))) (entered (frame.Close true) (i + 2) p) p)
       (after m w Open u) rs)
 
   -- whether a step opens an outermost region: then the point before it is saved
   abbrev pub saves : m.State → ℕ → Bool
-  saves w u = cond (m.means w).is_open false (spent_by (answer m w Open u)).done
+  saves w u = cond (m.means w).is_open false (is_done (spent_by (answer m w Open u)))
 
   abbrev pub close_rows : Stand → m.State → List Reading → ℕ → ℕ → Walked m.State
   close_rows p w rs i u =
       cond (is_outermost (top_of p.spot.frames))
-      (walked (spent_by (answer m w Close u)).words 0
-      (cond (spent_by (answer m w Close u)).done (left_at (i + 1) p) p)
+      (walked (written (spent_by (answer m w Close u))) 0
+      (cond (is_done (spent_by (answer m w Close u))) (left_at (i + 1) p) p)
       (after m w Close u) rs)
       (walked 0 0 (left_at (i + 1) p) w rs)
 
@@ -277,9 +279,9 @@ module _ (m : Model) (g : Plant) (h : Source) where
   -- a mend that is done leaves the other units for steps; one that is cut is a failure
   abbrev pub mended_rows : ℕ → ℕ → Core → Spent → m.State → List Reading → Running
   mended_rows units off c s w rs =
-      cond s.done
-      (going_rows (suc (units - s.words)) off (units - s.words) (running (spending s.words 0 c) w rs))
-      (failing off (running (spending s.words 0 c) w rs))
+      cond (is_done s)
+      (going_rows (suc (units - written s)) off (units - written s) (running (spending (written s) 0 c) w rs))
+      (failing off (running (spending (written s) 0 c) w rs))
 
   abbrev pub power_rows : ℕ → ℕ → Running → Running
   power_rows units off r =

@@ -1,5 +1,5 @@
 // The plain parts of a run.
-ghost use Rattle.std.specs.Prelude.{◌≡◌, ◌*◌, ◌≤◌, length};
+ghost use Rattle.std.specs.Prelude.{◌≡◌, ◌*◌, ◌^◌, ◌<◌, ◌≤◌, length};
 
 use place::types::{Oldest, Place};
 use reader::drive::Script;
@@ -12,6 +12,15 @@ pub(crate) struct Job {
     ghost flags: { length fresh ≡ 128 },
 }
 
+// Where a step is taken: the script, the row, and the number of the power call.
+#[derive(Clone, Copy)]
+pub(crate) struct Here<'a> {
+    pub(crate) job: &'a Job,
+    pub(crate) row: usize,
+    pub(crate) call: u32,
+    ghost low: { row < 2 ^ 61 },
+}
+
 // What a failure in a region puts back: the place, the locals, and what stands behind each name.
 #[derive(Clone, Copy)]
 pub(crate) struct Point {
@@ -21,7 +30,8 @@ pub(crate) struct Point {
     ghost many: { length locals ≡ 64 },
 }
 
-// What a step came to: the words that it wrote beyond its unit, and its stale uses.
+// What a step came to: the words that it wrote beyond its unit, and its stale uses. That there are at most 2048
+// stands in clauses and in no ghost field, here and below: clauses and specs/ write such records out.
 #[derive(Clone, Copy)]
 pub(crate) struct Step {
     pub(crate) words: u32,
@@ -52,11 +62,11 @@ pub(crate) struct Counts {
     ghost counted: { stale ≤ 2048 * tick },
 }
 
-// The state of a run but for host, memory and list. `saved` is the point before the opening of the region
-// that the run is in, and `listed` how long the list was there.
+// The state of a run but for its job, host, memory and list, so that no call has to say that the job stays.
+// `saved` is the point before the opening of the region that the run is in, and `listed` how long the list was
+// there. `ended` is a flag: once it is set, the rest still tells where the run stood.
 #[derive(Clone, Copy)]
 pub(crate) struct State {
-    pub(crate) job: Job,
     pub(crate) at: Point,
     pub(crate) saved: Point,
     pub(crate) listed: usize,

@@ -7,6 +7,7 @@ use Rattle.script.specs.Syntax.{Leaf, Code, nothing, put, read, fork, turns, reg
 use Rattle.script.specs.Stand.{Table, olds, uses_in}
 use Rattle.script.specs.Unbroken.{is_zero}
 use Rattle.memory.specs.Meaning.{Meaning}
+use Rattle.memory.specs.Spent.{is_done}
 use Rattle.memory.specs.Calls.{Call, Put, Open, Close, can, goal, Obeyed}
 use Rattle.memory.specs.Model.{Model, Lawful}
 use Rattle.checker.proofs.Order.{empty_left}
@@ -51,12 +52,12 @@ module _ (m : Model) (law : Lawful m) (j : Job) where
         → Points j.fresh done.calls (goal (m.means w) c).is_open done.at done.saved → Fresh done.made
         → Points j.fresh undone.calls (open_in w) undone.at undone.saved → Fresh undone.made
         → Going m j (paid done undone (m.act w c u)).state
-    paid_held long long' p q p' q' = by (m.act w c u).answer.done refl
+    paid_held long long' p q p' q' = by (is_done (m.act w c u).answer) refl
       where
         r : Obeyed (m.means w) (goal (m.means w) c) u (m.act w c u).answer (m.means (m.act w c u).after)
         r = law.rules w c u fine may
 
-        by : (d : Bool) → (m.act w c u).answer.done ≡ d → Going m j (with_memory (m.act w c u).after (cond d done undone))
+        by : (d : Bool) → is_done (m.act w c u).answer ≡ d → Going m j (with_memory (m.act w c u).after (cond d done undone))
         by true e = record {
           fine = law.stays_fine w c u fine may;
           long = ap (λ (v : Meaning). length v.kept) (r.effect e) ∙ long';

@@ -8,6 +8,7 @@ use Rattle.script.specs.Syntax.{Script, code}
 use Rattle.script.specs.Steps.{cells, repeats}
 use Rattle.script.specs.Stand.{refused, all_refused}
 use Rattle.memory.specs.Meaning.{Meaning}
+use Rattle.memory.specs.Spent.{is_done, written}
 use Rattle.memory.specs.Calls.{Mend, goal, Obeyed}
 use Rattle.memory.specs.Model.{Model, Lawful}
 use Rattle.runs.specs.declared.types.Reading.{Reading}
@@ -125,10 +126,10 @@ module _ (m : Model) (law : Lawful m) (j : Job) where
 
   -- a mend closes the memory, or is cut and leaves it open
   mending : (units off : ℕ) (s : State m.State) → Resting m j s → Resting m j (mended m j units off s (m.act s.memory Mend units))
-  mending units off s h = by (m.act s.memory Mend units).answer.done refl
+  mending units off s h = by (is_done (m.act s.memory Mend units).answer) refl
     where
       after : State m.State
-      after = ticked (m.act s.memory Mend units).answer.words (with_memory (m.act s.memory Mend units).after s)
+      after = ticked (written (m.act s.memory Mend units).answer) (with_memory (m.act s.memory Mend units).after s)
 
       r : Obeyed (m.means s.memory) (goal (m.means s.memory) Mend) units (m.act s.memory Mend units).answer (m.means after.memory)
       r = law.rules s.memory Mend units h.fine refl
@@ -142,8 +143,8 @@ module _ (m : Model) (law : Lawful m) (j : Job) where
         fresh = h.fresh;
       }
 
-      by : (d : Bool) → (m.act s.memory Mend units).answer.done ≡ d
-          → Resting m j (cond d (going m j (suc (units - (m.act s.memory Mend units).answer.words)) off (units - (m.act s.memory Mend units).answer.words) after) (failed m j off after))
+      by : (d : Bool) → is_done (m.act s.memory Mend units).answer ≡ d
+          → Resting m j (cond d (going m j (suc (units - written (m.act s.memory Mend units).answer)) off (units - written (m.act s.memory Mend units).answer) after) (failed m j off after))
       by true e =
           let shut : (m.means after.memory).is_open ≡ false = ap (λ (v : Meaning). v.is_open) (r.effect e) in
           let l = ap (λ (v : Meaning). length v.kept) (r.effect e) in

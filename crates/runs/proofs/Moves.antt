@@ -5,6 +5,7 @@ use Rattle.script.specs.Steps.{repeats}
 use Rattle.script.specs.Values.{value}
 use Rattle.script.specs.Unbroken.{valued, is_zero}
 use Rattle.memory.specs.Meaning.{Meaning, after_put, after_open, after_close}
+use Rattle.memory.specs.Spent.{is_done, written}
 use Rattle.memory.specs.Calls.{Call, Put, Open, Close, can, goal}
 use Rattle.memory.specs.Model.{Model, Lawful}
 use Rattle.runs.specs.declared.types.Reading.{Reading}
@@ -102,10 +103,10 @@ module _ (m : Model) (law : Lawful m) (j : Job) (s : State m.State) (u : ℕ) (o
   -- a step that calls the memory
   paid_outcome : (is : List Item) (t t' : State m.State) (a : Call) → can (m.means s.memory) a ≡ true → clock t ≡ clock s → clock t' ≡ clock s →
       t'.at ≡ s.at → t'.saved ≡ s.saved → To is t.at t.saved (goal (m.means s.memory) a) → Outcome m j is s u (paid t t' (m.act s.memory a u))
-  paid_outcome is t t' a c l l' ea es g = by (m.act s.memory a u).answer.done refl
+  paid_outcome is t t' a c l l' ea es g = by (is_done (m.act s.memory a u).answer) refl
     where
-      by : (b : Bool) → (m.act s.memory a u).answer.done ≡ b →
-          Outcome m j is s u (record { words = (m.act s.memory a u).answer.words; state = with_memory (m.act s.memory a u).after (cond b t t') })
+      by : (b : Bool) → is_done (m.act s.memory a u).answer ≡ b →
+          Outcome m j is s u (record { words = written (m.act s.memory a u).answer; state = with_memory (m.act s.memory a u).after (cond b t t') })
       by true e =
           let o = law.rules s.memory a u ok c in
           done (record {

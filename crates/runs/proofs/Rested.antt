@@ -3,6 +3,7 @@ use Rattle.std.proofs.Common.{◌≡◌, ℕ, ◌+◌, ◌-◌, ◌≤◌, Bool,
 use lib.Seq.{take-length}
 use Rattle.script.specs.Steps.{steps, readings, repeats, channels_below}
 use Rattle.memory.specs.Meaning.{Meaning}
+use Rattle.memory.specs.Spent.{is_done}
 use Rattle.memory.specs.Calls.{Mend}
 use Rattle.memory.specs.Model.{Model, Lawful}
 use Rattle.runs.specs.declared.types.Call.{Call}
@@ -100,7 +101,7 @@ module _ (m : Model) (law : Lawful m) (j : Job) (S R c : ℕ) where
       }
 
   -- one that mends
-  pub mended_steady : (units : ℕ) (s : T) → Resting m j S R c s → s.ended ≡ false → (m.act s.memory Mend units).answer.done ≡ true →
+  pub mended_steady : (units : ℕ) (s : T) → Resting m j S R c s → s.ended ≡ false → is_done (m.act s.memory Mend units).answer ≡ true →
       Steady m j S R c (after_mend m j units s)
   mended_steady units s h n e =
       let r = law.rules s.memory Mend units h.fine refl in
@@ -118,7 +119,7 @@ module _ (m : Model) (law : Lawful m) (j : Job) (S R c : ℕ) where
 
   -- one whose mend is cut
   pub unmended_steady : (units off : ℕ) (s : T) → Resting m j S R c s → s.ended ≡ false → (m.means s.memory).is_open ≡ true →
-      (m.act s.memory Mend units).answer.done ≡ false → Resting m j S R c (failed m j off (after_mend m j units s))
+      is_done (m.act s.memory Mend units).answer ≡ false → Resting m j S R c (failed m j off (after_mend m j units s))
   unmended_steady units off s h n o e =
       let r = law.rules s.memory Mend units h.fine refl in
       let v = r.stays e in

@@ -1,6 +1,7 @@
 -- An induction over runs: what every step keeps holds after any calls.
 use Rattle.std.proofs.Common.{◌≡◌, ℕ, zero, suc, ◌+◌, ◌-◌, ◌<◌, Bool, true, false, cond, not, eqb, List, [], ◌∷◌, Some, None, Option, sym, refl, ap, ◌∙◌, subst, arith}
 use Rattle.script.specs.Syntax.{nothing, put, read, fork, turns, region, uses}
+use Rattle.memory.specs.Spent.{is_done, written}
 use Rattle.memory.specs.Calls.{Mend}
 use Rattle.memory.specs.Model.{Model}
 use Rattle.runs.specs.declared.types.Call.{Call}
@@ -76,15 +77,15 @@ module _ (m : Model) (j : Job) where
 
   -- the state that a mend with so many units leaves, in the next power call
   abbrev pub after_mend : ℕ → S → S
-  after_mend units s = ticked (m.act s.memory Mend units).answer.words (with_memory (m.act s.memory Mend units).after (called m j s))
+  after_mend units s = ticked (written (m.act s.memory Mend units).answer) (with_memory (m.act s.memory Mend units).after (called m j s))
 
   -- what a power call at s needs, to come to Q by P
   pub record CallLeads (units off : ℕ) (s : S) (P : ℕ → S → Type 0) (Q : S → Type 0) : Type 0 where
     pub goes : StepsKeep off P Q
     pub starts : (m.means s.memory).is_open ≡ false → P units (called m j s)
-    pub mends : (m.means s.memory).is_open ≡ true → (m.act s.memory Mend units).answer.done ≡ true →
-        P (units - (m.act s.memory Mend units).answer.words) (after_mend units s)
-    pub breaks : (m.means s.memory).is_open ≡ true → (m.act s.memory Mend units).answer.done ≡ false → Q (failed m j off (after_mend units s))
+    pub mends : (m.means s.memory).is_open ≡ true → is_done (m.act s.memory Mend units).answer ≡ true →
+        P (units - written (m.act s.memory Mend units).answer) (after_mend units s)
+    pub breaks : (m.means s.memory).is_open ≡ true → is_done (m.act s.memory Mend units).answer ≡ false → Q (failed m j off (after_mend units s))
 
   module _ (P : ℕ → S → Type 0) (Q : S → Type 0) where
     pub going_keeps : (off : ℕ) → StepsKeep off P Q → (f u : ℕ) (s : S) → u < f → P u s → Q (going m j f off u s)
@@ -102,7 +103,7 @@ module _ (m : Model) (j : Job) where
     pub power_leads : (units off : ℕ) (s : S) → CallLeads units off s P Q → Q (power_of m j units off s)
     power_leads units off s k =
         split Q (m.means s.memory).is_open
-        (λ o. split Q (m.act s.memory Mend units).answer.done
+        (λ o. split Q (is_done (m.act s.memory Mend units).answer)
         (λ d. going_keeps off k.goes _ _ _ (omega arith) (k.mends o d))
         (λ d. k.breaks o d))
         (λ o. going_keeps off k.goes (suc units) units (called m j s) (omega arith) (k.starts o))

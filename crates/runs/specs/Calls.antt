@@ -7,6 +7,7 @@ use Rattle.memory.specs.Calls.{Mend}
 use Rattle.memory.specs.Model.{Model}
 use Rattle.runs.specs.declared.types.Reading.{Reading}
 use Rattle.runs.specs.declared.types.Powered.{Powered}
+use Rattle.runs.specs.declared.types.Powered.TheVariants.{Ended, Failed}
 use Rattle.runs.specs.declared.types.Report.{Report}
 use Rattle.runs.specs.declared.types.Call.{Call}
 use Rattle.runs.specs.declared.types.Call.TheVariants as call
@@ -36,7 +37,7 @@ led None next same = next
 led (Some n) next same = same
 
 abbrev pub powered : {W : Type 0} → State W → Powered
-powered s = record { ended = s.ended; tick = s.tick }
+powered s = cond s.ended (Ended s.tick) (Failed s.tick)
 
 -- a kept cell; refused by 24 where there is none
 abbrev pub kept_cell : List ℤ → ℕ → Result ℤ Fault

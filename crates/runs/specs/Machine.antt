@@ -5,6 +5,7 @@ use Rattle.script.specs.Steps.{cells}
 use Rattle.script.specs.Stand.{assigned, uses_in, fresh_in}
 use Rattle.script.specs.Values.{value}
 use Rattle.script.specs.Unbroken.{valued, is_zero, no_locals}
+use Rattle.memory.specs.Spent.{is_done, written}
 use Rattle.memory.specs.Calls.{Put, Open, Close, Mend}
 use Rattle.memory.specs.Model.{Model, Moved}
 use Rattle.runs.specs.declared.types.Reading.{Reading}
@@ -133,7 +134,7 @@ free s = record { words = 0; state = s }
 
 -- a step that calls the memory: where the call is cut, the step is undone
 abbrev pub paid : {W : Type 0} → State W → State W → Moved W → Stepped W
-paid done undone a = record { words = a.answer.words; state = with_memory a.after (cond a.answer.done done undone) }
+paid done undone a = record { words = written a.answer; state = with_memory a.after (cond (is_done a.answer) done undone) }
 
 module _ (m : Model) (j : Job) where
   -- the value of an expression: names stand for current cells and locals
@@ -228,9 +229,9 @@ module _ (m : Model) (j : Job) where
   -- a mend that is done leaves the other units for steps; one that is cut is a failure
   abbrev pub mended : ℕ → ℕ → State m.State → Moved m.State → State m.State
   mended units off s a =
-      cond a.answer.done
-      (going (suc (units - a.answer.words)) off (units - a.answer.words) (ticked a.answer.words (with_memory a.after s)))
-      (failed off (ticked a.answer.words (with_memory a.after s)))
+      cond (is_done a.answer)
+      (going (suc (units - written a.answer)) off (units - written a.answer) (ticked (written a.answer) (with_memory a.after s)))
+      (failed off (ticked (written a.answer) (with_memory a.after s)))
 
   -- power for so many units, and then so many ticks without: it mends first where the memory is open
   abbrev pub power_of : ℕ → ℕ → State m.State → State m.State

@@ -1,6 +1,0 @@
-use Rattle.std.proofs.Common.{sym, arith}
-use Rattle.std.proofs.lemmas.List.{set_past}
-use Rattle.place.proofs.types.Oldest.put.Goals as goal
-
-pub returns-else-name-lt128 : goal.returns-else-name-lt128
-returns-else-name-lt128 c = sym (set_past c.args.self.now.of c.args.name c.args.call (omega (arith, c.args.self.now.long)))
