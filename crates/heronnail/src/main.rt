@@ -2,8 +2,6 @@
 // shell over the proved library; what it prints is tested.
 #![tactic(auto)]
 
-ghost use Rattle.std.specs.Prelude.{◌≤◌, length, IfOk};
-
 mod show;
 
 use anyhow::anyhow;
@@ -17,36 +15,25 @@ const USAGE: &str =
     "usage: heronnail check FILE   read a drive script and say whether it is accepted
        heronnail help         print this text";
 
-// The bytes of the file, as many as the buffer holds. The buffer has one byte more than a script may
-// have, so that a file of any size is refused without being read whole.
-fn read_start(rt: &HostRuntime, path: &str, buf: &mut [u8]) -> io::Result<usize>
-    ensures { IfOk result (λ n. n ≤ length buf.old) }
-{
-    let mut file = fs::open(rt, path)?;
-    let mut len = 0;
-    for _ in 0..u64::MAX {
-        if len >= buf.len() {
-            break;
-        }
-        let n = file.read(&mut buf[len..])?;
-        if n == 0 {
-            break;
-        }
-        len += n;
-    }
-    Ok(len)
+// One byte more than a script may have, so that a file of any size is refused without being read whole.
+const ENOUGH: u64 = 8193;
+
+fn read_start(rt: &HostRuntime, path: &str) -> io::Result<Vec<u8>> {
+    let mut text = Vec::new(rt.alloc());
+    fs::open(rt, path)?.take(ENOUGH).read_to_end(&mut text)?;
+    Ok(text)
 }
 
 fn check_file(rt: &HostRuntime, path: &str) -> anyhow::Result<()> {
-    let mut buf = [0u8; 8193];
-    let len = match read_start(rt, path, &mut buf) {
-        Ok(len) => len,
+    // What goes wrong with a file is told here, and not passed on.
+    let bytes = match read_start(rt, path) {
+        Ok(bytes) => bytes,
         Err(e) => {
             eprintln!(rt; "heronnail: {path}: cannot be read: {e}")?;
             return Err(anyhow!("not read"));
         }
     };
-    let text = &buf[0..len];
+    let text = bytes.as_slice();
     let mut accepted = Accepted::new();
     if let Err(fault) = accepted.check(text) {
         print_refusal(rt, path, text, fault)?;
@@ -69,30 +56,15 @@ fn usage(rt: &HostRuntime) -> anyhow::Result<()> {
     Err(anyhow!("usage"))
 }
 
-fn run(rt: &HostRuntime, word: &str, file: Option<String>) -> anyhow::Result<()> {
-    match file {
-        Some(path) => if word == "check" {
-            check_file(rt, path.as_str())
-        } else {
-            usage(rt)
-        },
-        None => if word == "help" {
+fn command(rt: &HostRuntime) -> anyhow::Result<()> {
+    let mut args = env::args(rt)?.skip(1);
+    match (args.next().as_deref(), args.next()) {
+        (Some("check"), Some(path)) => check_file(rt, path.as_str()),
+        (Some("help"), None) => {
             println!(rt; "{USAGE}")?;
             Ok(())
-        } else {
-            usage(rt)
-        },
-    }
-}
-
-fn command(rt: &HostRuntime) -> anyhow::Result<()> {
-    let mut args = env::args(rt)?;
-    let _program = args.next();
-    let word = args.next();
-    let file = args.next();
-    match word {
-        Some(w) => run(rt, w.as_str(), file),
-        None => usage(rt),
+        }
+        _ => usage(rt),
     }
 }
 

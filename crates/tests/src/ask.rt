@@ -6,47 +6,35 @@ use std::alloc::{AllocError, Global};
 use std::process::Abort;
 use std::test::Fail;
 
-// A question's number, the place and the layer's number: 0 for the text, 1 for names, 2 for regions.
-// All are 0 where nothing is refused.
-pub type Verdict = (u8, usize, u8);
-
-pub const ACCEPTED: Verdict = (0, 0, 0);
-
-// The number of the question that refuses, 0 for none, and the script, `@` before its fault.
+// The number of the question that refuses, 0 for none, and the script, `@` before its fault. It is the
+// number that docs/REFUSALS.md promises, and not a `Refusal`, whose own numbers are under test here; 0 for
+// none keeps a case on one line.
 pub type Case = (u8, &'static str);
 
 // The pieces of a long text, each with how many times it stands. A `#` is the turn, from 0, in two
 // digits, and a `%` the next turn.
 pub type Pieces = &'static [(&'static str, usize)];
 
-// The number and the place that a long text is refused with.
+// The number, 0 for none as in a `Case`, and the place that a long text is refused with.
 pub type Long = (u8, usize, Pieces);
 
-// Cells, locals, steps, readings and need.
+// Cells, locals, steps, readings and need, as a tuple so that a case stays on one line.
 pub type Counts = (usize, usize, u64, u64, u64);
 
-pub(crate) fn of_answer(answer: Result<(), Fault>) -> Verdict {
-    match answer {
-        Ok(()) => ACCEPTED,
-        Err(fault) => (fault.number, fault.place, fault.layer as u8),
-    }
-}
-
-pub(crate) fn verdict(text: &[u8]) -> Verdict {
+pub(crate) fn verdict(text: &[u8]) -> Result<(), Fault> {
     let mut script = Script::new();
-    let answer = script.read(text);
-    if answer.is_err() {
-        return of_answer(answer);
-    }
-    let mut accepted = Accepted::new();
-    of_answer(accepted.accept(&script))
+    script.read(text)?;
+    Accepted::new().accept(&script)
 }
 
-fn expected(number: u8, place: usize, layer: Layer) -> Verdict {
-    if number == 0 {
-        ACCEPTED
-    } else {
-        (number, place, layer as u8)
+pub(crate) fn expected(number: u8, place: usize, layer: Layer) -> Result<(), Fault> {
+    match number {
+        0 => Ok(()),
+        _ => Err(Fault {
+            number,
+            place,
+            layer,
+        }),
     }
 }
 
@@ -141,11 +129,8 @@ pub(crate) fn counts(script: &Script) -> Counts {
     )
 }
 
-// All 0 where the text is refused: what is read has a need of at least 5.
-pub(crate) fn counted(text: &[u8]) -> Counts {
+pub(crate) fn counted(text: &[u8]) -> Result<Counts, Fault> {
     let mut script = Script::new();
-    match script.read(text) {
-        Ok(()) => counts(&script),
-        Err(_) => (0, 0, 0, 0, 0),
-    }
+    script.read(text)?;
+    Ok(counts(&script))
 }

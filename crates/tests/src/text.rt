@@ -1,5 +1,5 @@
 // Questions 1 to 6: the text.
-use crate::ask::{ACCEPTED, Case, Long, all_agree, all_long_agree, verdict};
+use crate::ask::{Case, Long, all_agree, all_long_agree, verdict};
 use script::fault::Layer;
 use std::process::Abort;
 use std::test::Fail;
@@ -384,17 +384,22 @@ atomic { atomic { x = in 15 ; if x < d { c = - 1 ; } } } c = a - 2147483647 ; c 
 
 // What begins a script is refused at its end, or at a token that the cut has changed.
 fn all_cuts_agree(rt: &impl Abort, text: &[u8]) {
-    for i in 0..text.len() {
-        let (number, place, layer) = verdict(&text[0..i]);
-        assert_eq!(rt; (number, layer), (6, Layer::Text as u8), "{}", i);
-        if text[i] == b' ' {
-            assert_eq!(rt; place, i);
+    for (i, b) in text.iter().enumerate() {
+        let refused = verdict(&text[..i]).err();
+        assert_eq!(rt;
+            refused.map(|f| (f.number, f.layer)),
+            Some((6, Layer::Text)),
+            "{}",
+            i
+        );
+        if *b == b' ' {
+            assert_eq!(rt; refused.map(|f| f.place), Some(i));
         }
     }
 }
 
 #[test]
 fn a_script_cut_short(rt: HostRuntime) {
-    assert_eq!(rt; verdict(WHOLE.as_bytes()), ACCEPTED);
+    assert_eq!(rt; verdict(WHOLE.as_bytes()), Ok(()));
     all_cuts_agree(&rt, WHOLE.as_bytes());
 }
