@@ -35,10 +35,10 @@ fn made<M: FirstCells>(n: usize) -> Result<M, Fail> {
 
 // The loops over cells go by number, since a `Memory` is asked for a cell by its number.
 
-// The kept cells are the first values, but for cell 0 where `put` is true.
-fn kept_as_made<M: Memory>(rt: &impl Abort, memory: &M, put: bool) -> Result<(), Fail> {
+// The kept cells are the first values, but for so many from cell 0 on that were put.
+fn kept_as_made<M: Memory>(rt: &impl Abort, memory: &M, puts: u32) -> Result<(), Fail> {
     for i in 0..memory.count() {
-        let want = if put && i == 0 { -7 } else { first_value(i) };
+        let want = if i < puts { -7 } else { first_value(i) };
         assert_eq!(rt; memory.kept(i)?, want);
     }
     Ok(())
@@ -89,15 +89,17 @@ fn cut_at<M: Memory + Drop>(
     let was_open = memory.is_open();
     let spent = called(&mut memory, cut, units)?;
     assert_eq!(rt; spent, Spent::of(words, units));
-    let put = spent.is_done() && (cut == Cut::Close || cut == Cut::ShutPut);
+    let puts = match (cut, spent) {
+        (Cut::Close, Spent::Done(_)) => memory.count(),
+        (Cut::ShutPut, Spent::Done(_)) => 1,
+        _ => 0,
+    };
     if !spent.is_done() {
         assert_eq!(rt; memory.is_open(), was_open);
-        kept_as_made(rt, &memory, false)?;
     }
+    kept_as_made(rt, &memory, puts)?;
     assert!(rt; memory.mend(PLENTY).is_done() && !memory.is_open());
-    if cut != Cut::Close {
-        kept_as_made(rt, &memory, put)?;
-    }
+    kept_as_made(rt, &memory, puts)?;
     level(rt, &memory)
 }
 
@@ -150,7 +152,7 @@ fn a_pair_stands_after_a_cut(rt: HostRuntime) -> Result<(), Fail> {
         Spent::of(1, PLENTY)
     );
     assert_eq!(rt; memory.mend(PLENTY), Spent::of(2, PLENTY));
-    kept_as_made(&rt, &memory, false)
+    kept_as_made(&rt, &memory, 0)
 }
 
 // A cell put twice in a region, the second time cut: the mended cells are those before the region. Then once
@@ -161,14 +163,14 @@ fn put_twice<M: Memory + Drop>(rt: &impl Abort, mut memory: M) -> Result<(), Fai
         assert!(rt; memory.put(0, 5, PLENTY).is_ok());
         assert!(rt; memory.put(0, 6, PLENTY).is_ok());
         assert_eq!(rt; called(&mut memory, Cut::Again, 0)?, Spent::of(1, 0));
-        kept_as_made(rt, &memory, false)?;
+        kept_as_made(rt, &memory, 0)?;
         if close {
             assert_eq!(rt; called(&mut memory, Cut::Again, 1)?, Spent::of(1, 1));
             assert!(rt; memory.close(1).is_ok());
         } else {
             assert!(rt; memory.mend(PLENTY).is_done());
         }
-        kept_as_made(rt, &memory, close)?;
+        kept_as_made(rt, &memory, u32::from(close))?;
         level(rt, &memory)?;
     }
     Ok(())
@@ -190,15 +192,16 @@ fn is_refused<T: Drop>(answer: Result<T, Fault>, number: u8) -> bool {
     answer.err() == Some(fault)
 }
 
-// Each refusal of a memory of two cells, which it leaves as it was.
+// Each refusal of a memory, which it leaves as it was.
 fn refusals<M: Memory + Drop>(rt: &impl Abort, mut memory: M) -> Result<(), Fail> {
-    assert!(rt; is_refused(memory.get(2), 26) && is_refused(memory.kept(2), 26));
-    assert!(rt; is_refused(memory.put(2, 1, 9), 26) && is_refused(memory.close(9), 28));
+    let past = memory.count();
+    assert!(rt; is_refused(memory.get(past), 26) && is_refused(memory.kept(past), 26));
+    assert!(rt; is_refused(memory.put(past, 1, 9), 26) && is_refused(memory.close(9), 28));
     assert!(rt; !memory.is_open() && memory.mend(9) == Spent::of(0, 9));
     assert!(rt; memory.open(9).is_ok());
-    assert!(rt; is_refused(memory.open(9), 27) && is_refused(memory.put(2, 1, 9), 26));
+    assert!(rt; is_refused(memory.open(9), 27) && is_refused(memory.put(past, 1, 9), 26));
     assert!(rt; memory.is_open());
-    kept_as_made(rt, &memory, false)?;
+    kept_as_made(rt, &memory, 0)?;
     level(rt, &memory)
 }
 
@@ -218,8 +221,10 @@ fn refusals_have_their_numbers(rt: HostRuntime) -> Result<(), Fail> {
 
 #[test]
 fn every_refusal_has_its_number(rt: HostRuntime) -> Result<(), Fail> {
-    refusals(&rt, made::<Undo>(2)?)?;
-    refusals(&rt, made::<Double>(2)?)?;
+    for n in [0, 2] {
+        refusals(&rt, made::<Undo>(n)?)?;
+        refusals(&rt, made::<Double>(n)?)?;
+    }
     // by the number, as above
     assert_eq!(rt; Undo::new(&[0; 65]).err(), Some(Fault::new(29, 64)));
     assert_eq!(rt; Double::new(&[0; 65]).err(), Some(Fault::new(29, 64)));
