@@ -41,7 +41,7 @@ impl Check {
         self.target = None;
         self.level = Standing::Clean;
         self.inside = false;
-        self.frames = Fixed::new();
+        self.frames.clear();
         self.number = 0;
         self.rose = false;
         self.first = None;

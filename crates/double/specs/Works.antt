@@ -1,17 +1,19 @@
 -- The double buffer is within the rules.
-use Rattle.std.specs.Prelude.{◌≡◌, ℕ, zero, suc, ◌+◌, ◌-◌, ◌<◌, ◌≤◌, min, Bool, true, false, cond, not, leb, List, [], ◌∷◌, ◌++◌, length, take, drop, ◌%◌, ℤ, pos, Ok, Err, nat_eq, nat_le, nat_lt, slice_index_or, slice_set, refl}
-use Rattle.std.proofs.Common.{sym, ap, subst, ◌∙◌, arith, add-one, length-set, take-suc-set, length-take-le, take-suc, take-append-drop}
-use Rattle.std.proofs.lemmas.List.{drop-set-lt}
+use Rattle.std.specs.Prelude.{◌≡◌, ℕ, zero, suc, ◌+◌, ◌-◌, ◌<◌, ◌≤◌, min, Bool, true, false, cond, not, leb, List, [], ◌∷◌, ◌++◌, length, get_or, take, drop, ◌%◌, ℤ, pos, Ok, Err, nat_eq, nat_le, nat_lt, slice_index_or, slice_set, refl}
+use Rattle.std.proofs.Common.{sym, ap, subst, ◌∙◌, arith, add-one, length-set, take-suc-set, length-take-le, get_or-take, take-suc, take-append-drop}
+use Rattle.std.proofs.lemmas.List.{drop-set-lt, length-replicate}
 use Rattle.std.proofs.Math.Seq.{take-set-lt}
 use Rattle.double.specs.Buffer.{bit, side, up, half, with_half, live, meaning_of, Two64, Half, Flag, write, open_word, many, word, double_plan, double_model}
 use Rattle.double.specs.declared.halves.Halves.{Halves}
-use Rattle.memory.specs.Meaning.{Meaning, Sound, after_open, after_mend}
+use Rattle.memory.specs.Meaning.{Meaning, Sound, after_open, after_mend, closed_with}
 use Rattle.memory.specs.Calls.{Call, Put, Open, Close, Mend, can, goal}
 use Rattle.memory.specs.Plan.{applied, Good, Works}
 use Rattle.memory.specs.Spent.{spent}
-use Rattle.memory.specs.Model.{answer, after}
-use Rattle.memory.proofs.Plans.{meaning_eq, no_way, below, one_good}
+use Rattle.memory.specs.Model.{answer, after, cell_of}
+use Rattle.memory.proofs.Filling.{filled_length, filled_front}
+use Rattle.memory.proofs.Plans.{meaning_eq, no_way, below, one_good, a_cell}
 use Rattle.script.specs.Faults.{fault}
+use Rattle.double.specs.Made.{first_halves}
 
 own : (w : Halves) (b : Bool) (c : List ℤ) → half (with_half w b c) b ≡ c
 own w true c = refl
@@ -119,6 +121,16 @@ module _ (w : Halves) where
       ap (λ (b : Bool). write (so_far w.count) (cond b (Half (not (side w)) w.count (slice_index_or (half w (side w)) w.count (pos 0))) (Flag (w.state + 2)))) t
       ∙ ap (λ (z : Halves). write z (Flag (w.state + 2))) (copies w.count (omega arith))
 
+  -- the next word of the copy, as a loop over the cells writes it
+  pub copy_step : (z z' : Halves) (k : ℕ) (b : Bool) (x : ℤ) → k < w.count → z ≡ so_far k → b ≡ side w → x ≡ slice_index_or (half z b) k (pos 0) → z' ≡ with_half z (not b) (slice_set (half z (not b)) k x) → z' ≡ so_far (k + 1)
+  copy_step z z' k b x h e f g q =
+      let t : nat_lt k w.count ≡ true = grind arith in
+      let y : x ≡ get_or (half w (side w)) k (pos 0) = g ∙ ap (λ (d : Bool). get_or (half z d) k (pos 0)) f ∙ ap (λ (v : Halves). get_or (half v (side w)) k (pos 0)) (e ∙ copies k (omega arith)) ∙ ap (λ (c : List ℤ). get_or c k (pos 0)) (other w (side w) _) in
+      q ∙ ap (λ (d : Bool). write z (Half (not d) k x)) f ∙ ap (λ (o : ℤ). write z (Half (not (side w)) k o)) y
+      ∙ ap (λ (v : Halves). write v (Half (not (side w)) k (slice_index_or (half w (side w)) k (pos 0)))) e
+      ∙ sym (ap (λ (d : Bool). write (so_far k) (cond d (Half (not (side w)) k (slice_index_or (half w (side w)) k (pos 0))) (Flag (w.state + 2)))) t)
+      ∙ ap so_far (sym (add-one k))
+
   -- the words that an open leaves with u units, before its last
   pub copy_words : Two64 w → (z : Halves) (u n : ℕ) (b : Bool) → b ≡ side w → n ≡ min u w.count → z ≡ with_half w (not b) (take n (half w b) ++ drop n (half w (not b))) → z ≡ so_far (min u w.count)
   copy_words l z u n b f e q =
@@ -203,6 +215,16 @@ works = record { sound = sound; good = good; idle = λ w l e. ap (λ (b : Bool).
         (meaning_eq k (ap (λ (b : Bool). take w.count (half w (cond b (not (bit (3 - w.state))) (bit (3 - w.state))))) o.1 ∙ k) o.1)
     good w Mend l c = mend w l (up w) refl
 
+-- what get and kept answer
+pub get_is : (w : Halves) → Two64 w → (i : ℕ) → i < w.count → cell_of (meaning_of w).current i ≡ Ok (slice_index_or (half w (live w)) i (pos 0))
+get_is w l i lt = a_cell (meaning_of w).current i w.count ((sound w l).level ∙ kept_length w l) lt ∙ ap (λ (y : ℤ). Ok y) (get_or-take w.count (half w (live w)) i (pos 0) lt)
+
+pub kept_is : (w : Halves) → Two64 w → (i : ℕ) → i < w.count → cell_of (meaning_of w).kept i ≡ Ok (slice_index_or (half w (side w)) i (pos 0))
+kept_is w l i lt = a_cell (meaning_of w).kept i w.count (kept_length w l) lt ∙ ap (λ (y : ℤ). Ok y) (get_or-take w.count (half w (side w)) i (pos 0) lt)
+
+pub closed_of : (s : ℕ) → s < 2 → nat_le 2 s ≡ false
+closed_of s h = grind arith
+
 -- bit 0 of the state word
 pub odd_bit : (s : ℕ) → s ≤ 3 → nat_eq (s % 2) 1 ≡ bit s
 odd_bit zero h = refl
@@ -217,3 +239,16 @@ open_is w c u = (ap (λ (b : Bool). cond (not b) (Ok (spent (w.count + 1) u)) (E
 
 pub cut_open : (w : Halves) (u : ℕ) → u ≤ w.count → min u w.count ≡ min u (w.count + 1)
 cut_open w u h = omega arith
+
+-- a new double buffer
+pub first_two : (vs : List ℤ) → length vs ≤ 64 → Two64 (first_halves vs)
+first_two vs h = record {
+  small = h;
+  first = filled_length vs h;
+  second = length-replicate 64 (pos 0);
+  state = omega arith;
+}
+
+-- it means a closed memory of the first values
+pub first_means : (vs : List ℤ) → meaning_of (first_halves vs) ≡ closed_with vs
+first_means vs = meaning_eq (filled_front vs) (filled_front vs) refl

@@ -2,6 +2,8 @@
 // shell over the proved library; what it prints is tested.
 #![tactic(auto)]
 
+ghost use Rattle.std.specs.Prelude.{◌≤◌, length, IfOk};
+
 mod show;
 
 use anyhow::anyhow;
@@ -15,25 +17,38 @@ const USAGE: &str =
     "usage: heronnail check FILE   read a drive script and say whether it is accepted
        heronnail help         print this text";
 
-// One byte more than a script may have, so that a file of any size is refused without being read whole.
-const ENOUGH: u64 = 8193;
-
-fn read_start(rt: &HostRuntime, path: &str) -> io::Result<Vec<u8>> {
-    let mut text = Vec::new(rt.alloc());
-    fs::open(rt, path)?.take(ENOUGH).read_to_end(&mut text)?;
-    Ok(text)
+// The bytes of the file, as many as the buffer holds. The buffer has one byte more than a script may
+// have, so that a file of any size is refused without being read whole. It is lent, since then no more can be read
+// than it holds: no clause of `take(..).read_to_end(..)` says how much that reads of a file.
+fn read_start(rt: &HostRuntime, path: &str, buf: &mut [u8]) -> io::Result<usize>
+    ensures { IfOk result (λ n. n ≤ length buf.old) }
+{
+    let mut file = fs::open(rt, path)?;
+    let mut len = 0;
+    for _ in 0..u64::MAX {
+        if len >= buf.len() {
+            break;
+        }
+        let n = file.read(&mut buf[len..])?;
+        if n == 0 {
+            break;
+        }
+        len += n;
+    }
+    Ok(len)
 }
 
 fn check_file(rt: &HostRuntime, path: &str) -> anyhow::Result<()> {
+    let mut buf = [0u8; 8193];
     // What goes wrong with a file is told here, and not passed on.
-    let bytes = match read_start(rt, path) {
-        Ok(bytes) => bytes,
+    let len = match read_start(rt, path, &mut buf) {
+        Ok(len) => len,
         Err(e) => {
             eprintln!(rt; "heronnail: {path}: cannot be read: {e}")?;
             return Err(anyhow!("not read"));
         }
     };
-    let text = bytes.as_slice();
+    let text = &buf[..len];
     let mut accepted = Accepted::new();
     if let Err(fault) = accepted.check(text) {
         print_refusal(rt, path, text, fault)?;

@@ -38,11 +38,17 @@ fn is_too_long(t: Tok) -> bool
     }
 }
 
-// The place of the first token that question 3 refuses.
+// The place of the first token that question 3 refuses. A loop: with the closures of `find` the compiler copied the
+// whole table of tokens once more where `Tokens::read` is inlined, and set as much.
 fn first_too_long(toks: &[Tok]) -> Option<usize>
     ensures { result ≡ first_where too_long toks.now }
 {
-    toks.iter().find(|t| is_too_long(**t)).map(|t| t.place)
+    for t in toks {
+        if is_too_long(*t) {
+            return Some(t.place);
+        }
+    }
+    None
 }
 
 // Question 3: names of at most `MAX_NAME` bytes, and numbers of at most `MAX_NUMBER`. The reserved

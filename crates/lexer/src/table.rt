@@ -1,11 +1,10 @@
 // The table of a text's tokens: their plain records, in the order of the text.
-ghost use Rattle.std.specs.Prelude.{◌≡◌, ◌+◌, ◌-◌, ◌*◌, ◌≤◌, ◌⊎◌, length, min, IfOk, IfErr, Ok, Err, MatchResult};
+ghost use Rattle.std.specs.Prelude.{◌≡◌, ◌+◌, ◌-◌, ◌*◌, ◌≤◌, ◌⊎◌, length, take, min, IfOk, IfErr, Ok, Err, MatchResult};
 ghost use Rattle.script.specs.Tokens.{tokens, value_of, word};
 ghost use Rattle.lexer.specs.Places.{Inside, Rising, Full};
 ghost use Rattle.lexer.specs.Plain.{plain, sym_of_mark};
 
 use crate::scan::{Lexer, Token, mark_sym};
-use list::fixed::Fixed;
 use script::fault::Fault;
 use script::refusal::Refusal;
 use script::token::{Sym, Tok};
@@ -84,23 +83,25 @@ fn record(token: Token<'_>, place: usize) -> Tok
     }
 }
 
-// The records of the text's tokens, where there is room for them: a table as long as the text is long
-// enough, since each token has a byte.
-pub(crate) fn read_tokens<const N: usize>(text: &[u8]) -> Result<Fixed<Tok, N>, Fault>
-    ensures table { MatchResult result (λ toks. tokens text.now ≡ Ok toks.items) (λ f. length text.now ≤ N → tokens text.now ≡ Err f) }
-    ensures full { IfErr result (λ f. (tokens text.now ≡ Err f) ⊎ Full N text.now f) }
-    ensures count { IfOk result (λ toks. (length toks.items ≤ length text.now) × (length toks.items ≤ N)) }
-    ensures inside { IfOk result (λ toks. Inside (length text.now) toks.items) }
-    ensures rising { IfOk result (λ toks. Rising toks.items) }
+// Writes the records of the text's tokens to `out`, and answers how many there are. A table as long as the text
+// is long enough, since each token has a byte. It is lent, since a list given back would be copied once more.
+pub(crate) fn read_tokens(text: &[u8], out: &mut [Tok]) -> Result<usize, Fault>
+    ensures table { MatchResult result (λ n. tokens text.now ≡ Ok (take n out.new)) (λ f. length text.now ≤ length out.old → tokens text.now ≡ Err f) }
+    ensures full { IfErr result (λ f. (tokens text.now ≡ Err f) ⊎ Full (length out.old) text.now f) }
+    ensures count { IfOk result (λ n. (n ≤ length text.now) × (n ≤ length out.old)) }
+    ensures inside { IfOk result (λ n. Inside (length text.now) (take n out.new)) }
+    ensures rising { IfOk result (λ n. Rising (take n out.new)) }
 {
     let mut lexer = Lexer::new(text);
-    let mut toks = Fixed::new();
+    let mut n = 0;
     while let Some((token, place)) = lexer.next()? {
-        if !toks.push(record(token, place)) {
+        if n >= out.len() {
             return Err(Refusal::TooManyTokens.at(place));
         }
+        out[n] = record(token, place);
+        n += 1;
     }
-    Ok(toks)
+    Ok(n)
 }
 
 #[cfg(test)]
@@ -110,8 +111,9 @@ mod tests {
 
     #[test]
     fn reads_words_numbers_and_marks(rt: HostRuntime) -> Result<(), Fail> {
-        let table = read_tokens::<16>(b"cell a_1 == 12;")?;
-        let toks = table.as_slice();
+        let mut table = [Tok::default(); 16];
+        let len = read_tokens(b"cell a_1 == 12;", &mut table)?;
+        let toks = &table[..len];
         assert_eq!(rt; toks.len(), 5);
         assert!(rt; toks[0].sym == Sym::Cell && toks[1].sym == Sym::Name);
         assert!(rt; toks[2].sym == Sym::Same && toks[2].place == 9 && toks[2].len == 2);
@@ -123,13 +125,15 @@ mod tests {
     #[test]
     fn says_where_a_byte_is_no_part_of_a_token(rt: HostRuntime) {
         // by the number, which is what is promised
-        assert_eq!(rt; read_tokens::<16>(b"in 7 ?").err(), Some(Fault::new(2, 5)));
+        let mut table = [Tok::default(); 16];
+        assert_eq!(rt; read_tokens(b"in 7 ?", &mut table), Err(Fault::new(2, 5)));
     }
 
     #[test]
     fn large_numbers_are_one(rt: HostRuntime) -> Result<(), Fail> {
-        let table = read_tokens::<16>(b"99999999999999")?;
-        let toks = table.as_slice();
+        let mut table = [Tok::default(); 16];
+        let len = read_tokens(b"99999999999999", &mut table)?;
+        let toks = &table[..len];
         assert_eq!(rt; toks.len(), 1);
         assert!(rt; toks[0].value == 2147483648 && toks[0].len == 14);
         Ok(())
@@ -138,6 +142,7 @@ mod tests {
     #[test]
     fn a_full_table_says_where(rt: HostRuntime) {
         // by the number, which is what is promised
-        assert_eq!(rt; read_tokens::<2>(b"a b  c").err(), Some(Fault::new(4, 5)));
+        let mut table = [Tok::default(); 2];
+        assert_eq!(rt; read_tokens(b"a b  c", &mut table), Err(Fault::new(4, 5)));
     }
 }

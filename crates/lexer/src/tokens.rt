@@ -21,10 +21,13 @@ impl Tokens {
         ensures { MatchResult result (λ t. scanned text.now ≡ Ok t.list.items) (λ f. scanned text.now ≡ Err f) }
     {
         size(text)?;
-        let list = read_tokens(text)?;
-        lengths(list.as_slice())?;
-        count(list.as_slice())?;
-        Ok(Tokens { list })
+        let mut table = [Tok::default(); 8192];
+        let len = read_tokens(text, &mut table)?;
+        lengths(&table[..len])?;
+        count(&table[..len])?;
+        Ok(Tokens {
+            list: Fixed::filled(table, len),
+        })
     }
 
     pub fn all(&self) -> &[Tok]

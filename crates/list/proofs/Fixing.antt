@@ -2,14 +2,21 @@
 use Rattle.std.specs.Option.{option_to_list}
 use Rattle.std.proofs.lemmas.Option.{slice_get_within, slice_get-get_or, get_or_from_slice_get}
 use Rattle.std.proofs.lemmas.Grind.{common_steps}
-use Rattle.std.proofs.lemmas.List.{reverse-append, take_all}
+use Rattle.std.proofs.lemmas.List.{reverse-append, take_all, take_more_set}
 use Rattle.std.proofs.Math.Seq.{take-suc}
-use Rattle.std.proofs.Common.{◌≡◌, ℕ, suc, ◌-◌, List, [], ◌∷◌, ◌++◌, length, take, Option, Some, None, refl, ap, sym, ◌∙◌, arith, reverse, append-nil}
+use Rattle.std.proofs.Common.{◌≡◌, ℕ, suc, ◌+◌, ◌-◌, ◌<◌, true, cond, ltb, List, [], ◌∷◌, ◌++◌, length, length-take-le, take, set, Option, Some, None, refl, ap, sym, ◌∙◌, arith, reverse, append-nil}
 use Rattle.list.specs.Entries.{added, last}
 
 module _ {X : Type 0} where
   pub filled : (n : ℕ) (ys : List X) (x : X) → added (take n ys) n x ≡ take n (ys ++ x ∷ [])
   filled n ys x = grind (arith, common_steps)
+
+  -- an entry written behind the first n of a slice
+  pub added_at : (xs : List X) (n : ℕ) (x : X) → n < length xs → take (n + 1) (set xs n x) ≡ added (take n xs) (length xs) x
+  added_at xs n x h =
+      let long : length (take n xs) ≡ n = length-take-le n xs (omega arith) in
+      let room : ltb (length (take n xs)) (length xs) ≡ true = grind arith in
+      take_more_set xs n x h ∙ sym (ap (λ b. cond b (take n xs ++ x ∷ []) (take n xs)) room)
 
   pub split_last : (xs : List X) (x : X) → last xs ≡ Some x → xs ≡ take (length xs - 1) xs ++ x ∷ []
   split_last xs x e =

@@ -46,6 +46,17 @@ impl<T: Copy + Default, const N: usize> Fixed<T, N> {
 }
 
 impl<T: Copy, const N: usize> Fixed<T, N> {
+    // The first entries of an array, at most all of them. Where a large table is filled and given back, it is an
+    // array until it is full: a list that is made first is copied once more with each call that hands it on.
+    pub fn filled(slots: [T; N], len: usize) -> Self
+        ensures { result.items ≡ take len slots }
+    {
+        Fixed {
+            slots,
+            len: len.min(N),
+        }
+    }
+
     pub fn as_slice(&self) -> &[T]
         ensures value { result.now ≡ self.now.items }
         ensures fits { length result.now ≤ N }
@@ -85,6 +96,13 @@ impl<T: Copy, const N: usize> Fixed<T, N> {
         Some(last)
     }
 
+    // Takes all entries off.
+    pub fn clear(&mut self)
+        ensures { self.new.items ≡ [] }
+    {
+        self.len = 0;
+    }
+
     pub fn len(&self) -> usize
         ensures { result ≡ length self.now.items }
     {
@@ -97,10 +115,9 @@ impl<T: Copy + Default, const N: usize> Fixed<T, N> {
     pub fn of(entries: &[T]) -> Self
         ensures { result.items ≡ take N entries.now }
     {
-        let mut list = Fixed::new();
-        for x in entries {
-            list.push(*x);
-        }
-        list
+        let mut slots = [T::default(); N];
+        let len = entries.len().min(N);
+        slots[..len].copy_from_slice(&entries[..len]);
+        Fixed { slots, len }
     }
 }

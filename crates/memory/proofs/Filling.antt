@@ -1,9 +1,14 @@
 -- Filling the cells with the first values.
-use Rattle.std.proofs.Common.{◌≡◌, ◌-◌, ◌≤◌, Bool, true, false, cond, leb, List, length, replicate, ℤ, pos, Ok, Err, Result, refl, ap, ◌∙◌, arith, length-append}
+use Rattle.std.proofs.Common.{◌≡◌, ◌-◌, ◌≤◌, Bool, true, false, cond, leb, List, length, take, replicate, ℤ, pos, Ok, Err, Result, refl, ap, ◌∙◌, arith, length-append}
 use lib.ListN.{length-replicate}
+use Rattle.std.proofs.lemmas.List.{take_at}
 use Rattle.script.specs.declared.fault.Fault.{Fault}
 use Rattle.script.specs.Faults.{fault}
 use Rattle.memory.specs.Cells.{filled, made_of}
+
+-- the cells that are made are the first values
+pub filled_front : (vs : List ℤ) → take (length vs) (filled vs) ≡ vs
+filled_front vs = take_at vs (replicate (64 - length vs) (pos 0)) (length vs) refl
 
 pub filled_length : (vs : List ℤ) → length vs ≤ 64 → length (filled vs) ≡ 64
 filled_length vs h =

@@ -1,5 +1,5 @@
 // Reads tokens to the rows of a script, by the table of moves.
-ghost use Rattle.std.specs.Prelude.{◌≡◌, ◌≤◌, length, drop, None, Ok, Err, MatchResult};
+ghost use Rattle.std.specs.Prelude.{◌≡◌, ◌≤◌, length, take, drop, None, Ok, Err, MatchResult};
 ghost use Rattle.script.specs.Faults.{fault};
 ghost use Rattle.script.specs.Written.{Breaks};
 ghost use Rattle.script.specs.Nesting.{nesting};
@@ -83,24 +83,23 @@ fn else_at(toks: &[Tok], i: usize) -> bool
     toks.get(i).is_some_and(|t| t.sym == Sym::Else)
 }
 
-// Question 6: the tokens are a script, and these are its rows; or the fault's place is that of the first
-// token that no script has there, else the text's end. This holds where there is room for all the
+// Question 6: the tokens are a script, and each is written to `out` with its role; or the fault's place is that of
+// the first token that no script has there, else the text's end. This holds where `out` has room for all the
 // tokens, and where question 5 found nothing, since no more than 16 can be open.
-pub(crate) fn parse<const N: usize>(toks: &[Tok], end: usize) -> Result<Fixed<Row, N>, Fault>
-    ensures runs { nesting toks.now ≡ None → length toks.now ≤ N → MatchResult result (λ rows. run end toks.now start ≡ Ok rows.items) (λ f. run end toks.now start ≡ Err f) }
-    ensures reads { nesting toks.now ≡ None → length toks.now ≤ N → MatchResult result (λ rows. Read toks.now rows.items) (λ f. (f ≡ fault 6 f.place) × Breaks end toks.now f.place) }
+pub(crate) fn parse(toks: &[Tok], end: usize, out: &mut [Row]) -> Result<(), Fault>
+    ensures runs { nesting toks.now ≡ None → length toks.now ≤ length out.old → MatchResult result (λ _. run end toks.now start ≡ Ok (take (length toks.now) out.new)) (λ f. run end toks.now start ≡ Err f) }
+    ensures reads { nesting toks.now ≡ None → length toks.now ≤ length out.old → MatchResult result (λ _. Read toks.now (take (length toks.now) out.new)) (λ f. (f ≡ fault 6 f.place) × Breaks end toks.now f.place) }
 {
+    if out.len() < toks.len() {
+        return Err(Refusal::TooManyTokens.at(end));
+    }
     let mut machine = Machine::new();
-    let mut rows = Fixed::new();
     // by index, since it also looks one token ahead
     for (i, t) in toks.iter().enumerate() {
-        let row = machine.advance(*t, else_at(toks, i + 1))?;
-        if !rows.push(row) {
-            return Err(Refusal::TooManyTokens.at(end));
-        }
+        out[i] = machine.advance(*t, else_at(toks, i + 1))?;
     }
     if machine.is_done() {
-        Ok(rows)
+        Ok(())
     } else {
         Err(Refusal::NotAScript.at(end))
     }
@@ -110,7 +109,7 @@ pub(crate) fn parse<const N: usize>(toks: &[Tok], end: usize) -> Result<Fixed<Ro
 mod tests {
     use crate::nest::nesting;
     use crate::read::parse;
-    use script::row::Role;
+    use script::row::{Role, Row};
     use script::token::{Sym, Tok};
     use std::test::Fail;
 
@@ -131,8 +130,8 @@ mod tests {
             tok(Sym::BraceClose, 7),
         ];
         assert!(rt; nesting(&toks).is_ok());
-        let read = parse::<3>(&toks, 8)?;
-        let rows = read.as_slice();
+        let mut rows = [Row::default(); 3];
+        parse(&toks, 8, &mut rows)?;
         assert_eq!(rt; rows.len(), 3);
         assert_eq!(rt; rows[2].role, Role::MainClose);
         assert_eq!(rt; rows[2].place, 7);
@@ -153,8 +152,8 @@ mod tests {
             tok(Sym::BraceClose, 8),
             tok(Sym::BraceClose, 9),
         ];
-        let read = parse::<10>(&toks, 10)?;
-        let rows = read.as_slice();
+        let mut rows = [Row::default(); 10];
+        parse(&toks, 10, &mut rows)?;
         assert_eq!(rt; rows.len(), 10);
         assert_eq!(rt; rows[5].role, Role::ThenClose);
         assert_eq!(rt; rows[8].role, Role::ElseClose);
@@ -180,8 +179,8 @@ mod tests {
             tok(Sym::Semicolon, 12),
             tok(Sym::BraceClose, 13),
         ];
-        let read = parse::<14>(&toks, 14)?;
-        let rows = read.as_slice();
+        let mut rows = [Row::default(); 14];
+        parse(&toks, 14, &mut rows)?;
         assert_eq!(rt; rows.len(), 14);
         assert_eq!(rt; rows[5].role, Role::Negate);
         assert_eq!(rt; rows[7].role, Role::Minus);
@@ -192,12 +191,14 @@ mod tests {
     #[test]
     fn a_stray_token_is_pointed_at(rt: HostRuntime) {
         let toks = [tok(Sym::Main, 0), tok(Sym::BraceOpen, 5), tok(Sym::Else, 7)];
-        assert_eq!(rt; parse::<3>(&toks, 11).err().map(|f| f.place), Some(7));
+        let mut rows = [Row::default(); 3];
+        assert_eq!(rt; parse(&toks, 11, &mut rows).err().map(|f| f.place), Some(7));
     }
 
     #[test]
     fn an_open_block_ends_at_the_texts_end(rt: HostRuntime) {
         let toks = [tok(Sym::Main, 0), tok(Sym::BraceOpen, 5)];
-        assert_eq!(rt; parse::<2>(&toks, 6).err().map(|f| f.place), Some(6));
+        let mut rows = [Row::default(); 2];
+        assert_eq!(rt; parse(&toks, 6, &mut rows).err().map(|f| f.place), Some(6));
     }
 }

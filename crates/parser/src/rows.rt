@@ -24,8 +24,11 @@ impl Rows {
     {
         count(toks)?;
         nesting(toks)?;
-        let list = parse(toks, end)?;
-        Ok(Rows { list })
+        let mut table = [Row::default(); 2048];
+        parse(toks, end, &mut table)?;
+        Ok(Rows {
+            list: Fixed::filled(table, toks.len()),
+        })
     }
 
     pub fn all(&self) -> &[Row]

@@ -1,6 +1,6 @@
 -- A place in the rows, and what is over at it: the end of an if, and a repeat with no more turns. Nothing need be believed of this file.
 -- Assumes nothing.
-use Rattle.std.specs.Prelude.{ℕ, zero, suc, ◌+◌, min, Bool, true, false, cond, ◌&&◌, List, [], ◌∷◌, length, Some, None, Option, nat_lt, slice_index_or, slice_set, fold, map, filter, count_by, reverse}
+use Rattle.std.specs.Prelude.{ℕ, zero, suc, ◌+◌, min, Bool, true, false, cond, ◌&&◌, List, [], ◌∷◌, length, take, Some, None, Option, nat_lt, slice_index_or, slice_set, fold, map, filter, count_by, reverse}
 use Rattle.script.specs.declared.row.Role.TheVariants as role
 use Rattle.script.specs.declared.row.Row.{Row}
 use Rattle.script.specs.Roles.{is}
@@ -58,7 +58,7 @@ abbrev pub spot : ℕ → List Frame → Spot
 spot i fs = record { row = i; frames = fs }
 
 abbrev pub spot_of : Place → Spot
-spot_of p = spot p.row (reverse p.frames.items)
+spot_of p = spot p.row (reverse (take p.depth p.frames))
 
 -- at most 16 braces are open
 abbrev pub pushed : Frame → List Frame → List Frame

@@ -1,9 +1,8 @@
 // The braces that are open around a place.
-ghost use Rattle.std.specs.Prelude.{◌≡◌, []};
+ghost use Rattle.std.specs.Prelude.{◌≡◌, [], take};
 ghost use Rattle.place.specs.Places.{spot, spot_of, pushed, popped, top_of};
 
-use crate::types::{Frame, Place};
-use list::fixed::Fixed;
+use crate::types::{Frame, MAX_OPEN, Place};
 
 impl Place {
     // At a row, with no brace open around it but main's.
@@ -12,15 +11,23 @@ impl Place {
     {
         Place {
             row,
-            frames: Fixed::new(),
+            frames: [Frame::default(); MAX_OPEN],
+            depth: 0,
         }
+    }
+
+    // The braces that are open, the innermost last.
+    fn open(&self) -> &[Frame]
+        ensures { result.now ≡ take self.now.depth self.now.frames }
+    {
+        &self.frames[..self.depth]
     }
 
     // The innermost brace.
     pub fn top(&self) -> Option<Frame>
         ensures { result ≡ top_of (spot_of self.now).frames }
     {
-        self.frames.last()
+        self.open().last().copied()
     }
 
     // A brace opens, and the run goes on at the row. No script has more open than there is room for.
@@ -28,7 +35,10 @@ impl Place {
         ensures { spot_of self.new ≡ spot row (pushed frame (spot_of self.old).frames) }
     {
         self.go(row);
-        self.frames.push(frame);
+        if self.depth < MAX_OPEN {
+            self.frames[self.depth] = frame;
+            self.depth += 1;
+        }
     }
 
     // The innermost brace closes, and the run goes on at the row.
@@ -36,7 +46,9 @@ impl Place {
         ensures { spot_of self.new ≡ spot row (popped (spot_of self.old).frames) }
     {
         self.go(row);
-        self.frames.pop();
+        if self.depth > 0 {
+            self.depth -= 1;
+        }
     }
 
     // The run goes on at the row.

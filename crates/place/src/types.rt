@@ -2,8 +2,6 @@
 ghost use Rattle.std.specs.Prelude.{◌≡◌, ◌≤◌, false, length};
 ghost use Rattle.place.specs.declared.types.Frame.TheVariants.{Close};
 
-use list::fixed::Fixed;
-
 // No script has more braces open. The parser has this limit too, but no crate here knows it.
 pub const MAX_OPEN: usize = 16;
 
@@ -28,12 +26,15 @@ impl Default for Frame {
 }
 
 // The row of the next statement or closing brace, and the braces that are open around it, the innermost
-// last.
+// last. An array and a depth, and no `Fixed`: a place is `Copy`, and a function that passes one by value and uses
+// it again is not checked where a struct with an `impl Model` lies in it.
 #[derive(Clone, Copy)]
 pub struct Place {
     pub row: usize,
-    pub(crate) frames: Fixed<Frame, MAX_OPEN>,
-    ghost deep: { length frames.items ≤ 16 },
+    pub(crate) frames: [Frame; MAX_OPEN],
+    pub(crate) depth: usize,
+    ghost deep: { depth ≤ 16 },
+    ghost long: { length frames ≡ 16 },
 }
 
 // For each name the first power call among the readings behind it, or `NEVER` where there is none.

@@ -1,5 +1,5 @@
 -- What a script holds that was read from a text. Assumes nothing.
-use Rattle.std.specs.Prelude.{◌≡◌, ℕ, List}
+use Rattle.std.specs.Prelude.{◌≡◌, ℕ, List, take}
 use Rattle.script.specs.declared.row.Row.{Row}
 use Rattle.script.specs.Syntax.{Script, done, no_decl}
 use Rattle.script.specs.Written.{rows}
@@ -10,7 +10,7 @@ use Rattle.reader.specs.declared.drive.Script.{Script as Held}
 
 -- the rows that a script holds, and the syntax that they mean
 abbrev pub rows_in : Held → List Row
-rows_in h = h.rows.items
+rows_in h = take h.len h.rows
 
 abbrev pub syntax : Held → Script
 syntax h = decode (rows_in h)

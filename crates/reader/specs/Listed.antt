@@ -1,5 +1,5 @@
 -- The numbers of the cells by one walk of the rows, up to main. Assumes nothing.
-use Rattle.std.specs.Prelude.{ℕ, Bool, cond, List, [], ◌∷◌, ℤ, pos, neg_ℤ}
+use Rattle.std.specs.Prelude.{ℕ, Bool, cond, List, [], ◌∷◌, take, ℤ, pos, neg_ℤ}
 use Rattle.script.specs.declared.row.Role.TheVariants as role
 use Rattle.script.specs.declared.row.Row.{Row}
 use Rattle.script.specs.Roles.{is}
@@ -19,4 +19,4 @@ listed minus (r ∷ rs) =
 
 -- the numbers that were found
 abbrev pub numbers_in : Declared → List ℤ
-numbers_in d = d.values.items
+numbers_in d = take d.len d.values

@@ -1,5 +1,5 @@
 // Finding the numbers that the cells of a script are declared with, by one walk of the rows.
-ghost use Rattle.std.specs.Prelude.{◌≡◌, ◌≤◌, true, false, take};
+ghost use Rattle.std.specs.Prelude.{◌≡◌, ◌≤◌, true, false, length, take};
 ghost use Rattle.script.specs.Numbers.{declared as declared_of, all_fit};
 ghost use Rattle.reader.specs.Listed.{signed as signed_of, listed, numbers_in};
 ghost use Rattle.reader.specs.Holding.{syntax};
@@ -10,10 +10,20 @@ use list::fixed::Fixed;
 use script::row::{Role, Row};
 
 impl Declared {
+    fn of(numbers: &[i32]) -> Declared
+        requires { length numbers.now ≤ 64 }
+        ensures { numbers_in result ≡ numbers.now }
+    {
+        let len = numbers.len();
+        let mut values = [0; 64];
+        values[..len].copy_from_slice(numbers);
+        Declared { values, len }
+    }
+
     pub fn as_slice(&self) -> &[i32]
         ensures { result.now ≡ numbers_in self.now }
     {
-        self.values.as_slice()
+        &self.values[..self.len]
     }
 }
 
@@ -49,8 +59,6 @@ impl Script {
     pub fn declared(&self) -> Declared
         ensures { numbers_in result ≡ declared_of (syntax self.now).decls }
     {
-        Declared {
-            values: numbers_of(self.rows()),
-        }
+        Declared::of(numbers_of(self.rows()).as_slice())
     }
 }

@@ -9,7 +9,6 @@ ghost use Rattle.reader.specs.Stages.{Parsed};
 use crate::drive::Script;
 use crate::stages::{ask_bounds, ask_names, cells_of, names_of};
 use lexer::tokens::Tokens;
-use list::fixed::Fixed;
 use parser::rows::Rows;
 use script::fault::Fault;
 use script::row::{Role, Row};
@@ -25,6 +24,7 @@ fn build(text: &[u8], rows: &[Row]) -> Result<Script, Fault>
     let cells = cells_of(text, rows).list.len();
     Ok(Script {
         rows: names.number_all(rows),
+        len: rows.len(),
         cells,
         locals: names.list.len() - cells,
         steps: total.steps.get(),
@@ -46,28 +46,28 @@ impl Script {
     pub fn new() -> Script
         ensures { rows_in result ≡ rows_of empty }
     {
-        let rows = [
-            Row {
-                role: Role::MainWord,
-                place: 0,
-                len: 4,
-                value: 0,
-            },
-            Row {
-                role: Role::MainOpen,
-                place: 5,
-                len: 1,
-                value: 0,
-            },
-            Row {
-                role: Role::MainClose,
-                place: 7,
-                len: 1,
-                value: 0,
-            },
-        ];
+        let mut rows = [Row::default(); 2048];
+        rows[0] = Row {
+            role: Role::MainWord,
+            place: 0,
+            len: 4,
+            value: 0,
+        };
+        rows[1] = Row {
+            role: Role::MainOpen,
+            place: 5,
+            len: 1,
+            value: 0,
+        };
+        rows[2] = Row {
+            role: Role::MainClose,
+            place: 7,
+            len: 1,
+            value: 0,
+        };
         Script {
-            rows: Fixed::of(&rows),
+            rows,
+            len: 3,
             cells: 0,
             locals: 0,
             steps: 0,
@@ -88,7 +88,7 @@ impl Script {
     pub fn rows(&self) -> &[Row]
         ensures { result.now ≡ rows_in self.now }
     {
-        self.rows.as_slice()
+        &self.rows[..self.len]
     }
 
     pub fn cells(&self) -> usize

@@ -11,12 +11,12 @@ use Rattle.std.proofs.Math.Seq.{take-set-lt}
 use Rattle.undo.specs.Log.{undone, among, marked, meaning_of, pairs, Log64, Cell, Flag, write, fresh, first_word, mend_word, many, word, undo_plan, undo_model}
 use Rattle.undo.specs.Made.{first_words}
 use Rattle.undo.specs.declared.words.Words.{Words}
-use Rattle.memory.specs.Meaning.{Meaning, after_put, after_mend}
+use Rattle.memory.specs.Meaning.{Meaning, after_put, after_mend, closed_with}
 use Rattle.memory.specs.Calls.{Call, Put, Open, Close, Mend, can, goal}
 use Rattle.memory.specs.Plan.{applied, Good, Works}
 use Rattle.memory.specs.Spent.{spent}
 use Rattle.memory.specs.Model.{answer, after, cell_of}
-use Rattle.memory.proofs.Filling.{filled_length}
+use Rattle.memory.proofs.Filling.{filled_length, filled_front}
 use Rattle.memory.proofs.Plans.{meaning_eq, no_way, below, one_good, a_cell, no_cell}
 use Rattle.script.specs.Faults.{fault}
 use Rattle.undo.specs.Back.{same_of, apart_of, undone_length, logged_free, past_log, first_put, marked_most, marked_room, marked_more, same_marks, closed_none, law_holds}
@@ -26,6 +26,9 @@ kept_length w l = undone_length w.numbers w.olds (pairs w) (take w.count w.cells
 
 pub pairs_most : (w : Words) → Log64 w → pairs w ≤ w.count
 pairs_most w l = subst (λ (a : ℕ). a ≤ w.count) (sym l.exact) (marked_most w.count (among (pairs w) w.numbers))
+
+pub state_most : (w : Words) → Log64 w → w.state ≤ 65
+state_most w l = let m = pairs_most w l in omega (arith, l.small)
 
 pub eq_true : (a b : ℕ) → a ≡ b → (a == b) ≡ true
 eq_true a b e = grind arith
@@ -196,6 +199,30 @@ module _ (w : Words) where
       ap (λ (b : Bool). write (applied write (mend_word w) w k) (cond b (Cell (slice_index w.numbers k) (slice_index_or w.olds k (pos 0))) (Flag 0))) t
       ∙ ap (λ (z : Words). write z (Cell (slice_index w.numbers k) (slice_index_or w.olds k (pos 0)))) (backs k (omega arith))
 
+  pub back_number : (z : Words) (j : ℕ) → j ≤ pairs w → z ≡ applied write (mend_word w) w j → slice_index z.numbers j ≡ slice_index w.numbers j
+  back_number z j h e = ap (λ (v : Words). slice_index v.numbers j) (e ∙ backs j h)
+
+  -- the next of them, as a loop over them writes it
+  pub back_step : (z : Words) (j : ℕ) (y : ℤ) → j < pairs w → z ≡ applied write (mend_word w) w j → y ≡ slice_index_or z.olds j (pos 0) → write z (Cell (slice_index z.numbers j) y) ≡ applied write (mend_word w) w (j + 1)
+  back_step z j y h e f =
+      let t : ltb j (pairs w) ≡ true = grind arith in
+      let g = e ∙ backs j (omega arith) in
+      ap (λ (o : ℤ). write z (Cell (slice_index z.numbers j) o)) (f ∙ ap (λ (v : Words). get_or v.olds j (pos 0)) g)
+      ∙ ap (λ (n : ℕ). write z (Cell n (slice_index_or w.olds j (pos 0)))) (ap (λ (v : Words). slice_index v.numbers j) g)
+      ∙ ap (λ (v : Words). write v (Cell (slice_index w.numbers j) (slice_index_or w.olds j (pos 0)))) e
+      ∙ sym (ap (λ (b : Bool). write (applied write (mend_word w) w j) (cond b (Cell (slice_index w.numbers j) (slice_index_or w.olds j (pos 0))) (Flag 0))) t)
+      ∙ ap (λ (k : ℕ). applied write (mend_word w) w k) (sym (add-one j))
+
+  -- the last word of a mend
+  pub mend_last : (u : ℕ) → 0 < w.state → pairs w < u → write (applied write (mend_word w) w (min u (pairs w))) (Flag 0) ≡ applied write (mend_word w) w (min u w.state)
+  mend_last u up h =
+      let t : ltb (pairs w) (pairs w) ≡ false = grind arith in
+      let a : min u (pairs w) ≡ pairs w = omega arith in
+      let b : min u w.state ≡ suc (pairs w) = omega arith in
+      ap (λ (k : ℕ). write (applied write (mend_word w) w k) (Flag 0)) a
+      ∙ sym (ap (λ (c : Bool). write (applied write (mend_word w) w (pairs w)) (cond c (Cell (slice_index w.numbers (pairs w)) (slice_index_or w.olds (pairs w) (pos 0))) (Flag 0))) t)
+      ∙ sym (ap (λ (k : ℕ). applied write (mend_word w) w k) b)
+
   -- the words that a mend leaves with u units, before its last
   pub back_words : Log64 w → (u k : ℕ) (c : List ℤ) → k ≡ min u (pairs w) → c ≡ undone (length (take k w.numbers)) (take k w.numbers) (take k w.olds) w.cells → with_cells c ≡ applied write (mend_word w) w (min u (pairs w))
   back_words l u k c e q =
@@ -299,6 +326,13 @@ works = record {
     good w Mend l c = mend_good w l
 
 -- what get and kept answer
+pub get_is : (w : Words) → Log64 w → (i : ℕ) → i < w.count → cell_of (meaning_of w).current i ≡ Ok (slice_index_or w.cells i (pos 0))
+get_is w l i lt =
+    a_cell (meaning_of w).current i w.count ((law_holds w).level ∙ kept_length w l) lt ∙ ap (λ (y : ℤ). Ok y) (get_or-take w.count w.cells i (pos 0) lt)
+
+pub get_not : (w : Words) → Log64 w → (i : ℕ) → w.count ≤ i → cell_of (meaning_of w).current i ≡ Err (fault 26 0)
+get_not w l i le = no_cell (meaning_of w).current i w.count ((law_holds w).level ∙ kept_length w l) le
+
 pub kept_is : (w : Words) → Log64 w → (i : ℕ) → i < w.count → cell_of (meaning_of w).kept i ≡ Ok (slice_index_or (undone (pairs w) w.numbers w.olds w.cells) i (pos 0))
 kept_is w l i lt =
     a_cell (meaning_of w).kept i w.count (kept_length w l) lt
@@ -309,12 +343,12 @@ pub kept_not : (w : Words) → Log64 w → (i : ℕ) → w.count ≤ i → cell_
 kept_not w l i le = no_cell (meaning_of w).kept i w.count (kept_length w l) le
 
 -- the kept value of a cell, one pair further
-kept_pair : (j i : ℕ) (ns : List ℕ) (os cs : List ℤ) → i < length cs → slice_index ns j ≡ i → slice_index_or os j (pos 0) ≡ slice_index_or (undone (suc j) ns os cs) i (pos 0)
+pub kept_pair : (j i : ℕ) (ns : List ℕ) (os cs : List ℤ) → i < length cs → slice_index ns j ≡ i → slice_index_or os j (pos 0) ≡ slice_index_or (undone (suc j) ns os cs) i (pos 0)
 kept_pair j i ns os cs h e =
     let n = undone_length ns os j cs in
     sym (ap (λ (p : ℕ). get_or (slice_set (undone j ns os cs) p (slice_index_or os j (pos 0))) i (pos 0)) e ∙ get_or-set_same (undone j ns os cs) i (slice_index_or os j (pos 0)) (pos 0) (omega (arith, n)))
 
-kept_past : (j i : ℕ) (ns : List ℕ) (os cs : List ℤ) → (slice_index ns j ≢ i) → slice_index_or (undone j ns os cs) i (pos 0) ≡ slice_index_or (undone (suc j) ns os cs) i (pos 0)
+pub kept_past : (j i : ℕ) (ns : List ℕ) (os cs : List ℤ) → (slice_index ns j ≢ i) → slice_index_or (undone j ns os cs) i (pos 0) ≡ slice_index_or (undone (suc j) ns os cs) i (pos 0)
 kept_past j i ns os cs ne = sym (get_or-set_other (undone j ns os cs) (slice_index ns j) i (slice_index_or os j (pos 0)) (pos 0) (λ q. ne (sym q)))
 
 -- no cell is logged twice
@@ -409,6 +443,14 @@ first_log vs h = record {
   each = λ j k. absurd (omega arith);
   exact = sym (marked_none (length vs) (replicate {A = ℕ} 64 0));
 }
+
+-- it means a closed memory of the first values
+pub first_means : (vs : List ℤ) → meaning_of (first_words vs) ≡ closed_with vs
+first_means vs = meaning_eq (filled_front vs) (filled_front vs) refl
+
+pub positive : (n : ℕ) → (n ≢ 0) → 0 < n
+positive zero h = absurd (h refl)
+positive (suc n) h = omega arith
 
 -- a look for a number among those of the pairs
 pub among_any : (k : ℕ) (ns : List ℕ) (p : ℕ) → k ≤ length ns → list_any (λ n. n == p) (take k ns) ≡ among k ns p

@@ -1,5 +1,5 @@
 // Questions 7 to 11, each put to all rows, and the numbering of the names.
-ghost use Rattle.std.specs.Prelude.{◌≡◌, ◌+◌, ◌<◌, ◌≤◌, ◌||◌, Bool, [], map, length};
+ghost use Rattle.std.specs.Prelude.{◌≡◌, ◌+◌, ◌<◌, ◌≤◌, ◌||◌, Bool, [], map, length, take};
 ghost use Rattle.std.specs.Fn.{FnReturnsAt};
 ghost use Rattle.script.specs.declared.row.Row.{Row};
 ghost use Rattle.script.specs.Faults.{answer};
@@ -8,7 +8,6 @@ ghost use Rattle.script.specs.Roles.{declares, mentions, those, first_row};
 
 use crate::names::roles::{declares_cell, declares_local, declares_name, mentions_name};
 use crate::names::table::Names;
-use list::fixed::Fixed;
 use script::fault::Fault;
 use script::refusal::Refusal;
 use script::row::{Role, Row};
@@ -130,13 +129,13 @@ impl<'a> Names<'a> {
     }
 
     // The rows with each name's number.
-    pub(crate) fn number_all(&self, rows: &[Row]) -> Fixed<Row, 2048>
+    pub(crate) fn number_all(&self, rows: &[Row]) -> [Row; 2048]
         requires { length rows.now ≤ 2048 }
-        ensures { result.items ≡ map (numbered self.now.text.now self.now.list.items) rows.now }
+        ensures { take (length rows.now) result ≡ map (numbered self.now.text.now self.now.list.items) rows.now }
     {
-        let mut table = Fixed::new();
-        for row in rows {
-            table.push(self.number(row));
+        let mut table = [Row::default(); 2048];
+        for (i, row) in rows.iter().enumerate() {
+            table[i] = self.number(row);
         }
         table
     }

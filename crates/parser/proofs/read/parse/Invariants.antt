@@ -1,5 +1,6 @@
+use Rattle.std.proofs.Common.{take}
 use Rattle.parser.proofs.Steps.{Sofar}
 use Rattle.parser.proofs.read.parse.Given as goal
 
 abbrev pub invariant-loop-i : goal.invariant-loop-i
-invariant-loop-i g l = Sofar l.end l.toks l.machine l.rows.items l.i
+invariant-loop-i l = Sofar l.end l.toks l.machine (take l.i l.out) l.i
