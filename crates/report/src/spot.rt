@@ -41,9 +41,11 @@ pub fn locate(text: &[u8], place: usize) -> Spot
 {
     let at = place.min(text.len());
     let (before, behind) = text.split_at(at);
+    let start = at - since_break(before);
+    // No line ends behind where this one begins, so that each byte is looked at once.
     Spot {
-        line: breaks(before) + 1,
-        start: at - since_break(before),
+        line: breaks(&before[..start]) + 1,
+        start,
         end: at + until_break(behind),
     }
 }

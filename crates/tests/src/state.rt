@@ -59,3 +59,11 @@ fn a_refused_script_leaves_the_accepted_one(rt: HostRuntime) {
     assert_eq!(rt; counts(accepted.script()), (1, 1, 4, 1, 30));
     assert_eq!(rt; counts(&script), (2, 1, 2, 1, 21));
 }
+
+// Numbers that a caller may ask for by a cast, and that no contract speaks of.
+#[test]
+fn layers_have_their_numbers(rt: HostRuntime) {
+    assert_eq!(rt; Layer::Text as u8, 0);
+    assert_eq!(rt; Layer::Names as u8, 1);
+    assert_eq!(rt; Layer::Regions as u8, 2);
+}
