@@ -1,3 +1,4 @@
 pub mod Buffer
 pub mod Made
 pub mod Works
+pub mod Fit

@@ -2,3 +2,4 @@ pub mod Log
 pub mod Made
 pub mod Works
 pub mod Back
+pub mod Fit
