@@ -4,6 +4,7 @@ ghost use Rattle.double.specs.Buffer.{meaning_of, side, live, half, with_half, d
 ghost use Rattle.double.specs.Made.{first_halves};
 ghost use Rattle.memory.proofs.Plans.{lawful_of};
 ghost use Rattle.double.specs.Works.{works};
+ghost use Rattle.double.specs.Fit.{two_of};
 ghost use Rattle.double.specs.declared.halves.Halves.{Halves as Buffer};
 
 use crate::buffer::Double;
@@ -103,7 +104,7 @@ impl Memory for Double {
 
     ghost lawful = { lawful_of double_plan works };
 
-    ghost stands = { λ m. m.fine };
+    ghost stands = { λ m. two_of m };
 
     fn count(&self) -> u32 {
         self.words.count

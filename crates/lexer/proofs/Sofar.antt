@@ -1,6 +1,6 @@
 -- What the loop that fills the table keeps. Assumes nothing.
-use Rattle.std.proofs.Common.{◌≡◌, ℕ, ◌+◌, ◌≤◌, true, false, cond, ltb, List, [], ◌∷◌, ◌++◌, length, Some, None, Ok, Err, Option, Result, sym, ap, ◌∙◌, subst, arith, length-append, append-nil}
-use Rattle.std.proofs.lemmas.Bool.{ltb-true, ltb-false}
+use Rattle.std.proofs.Common.{◌≡◌, ℕ, ◌+◌, ◌≤◌, true, cond, ltb, List, [], ◌∷◌, ◌++◌, length, Some, None, Ok, Err, Option, Result, sym, ap, ◌∙◌, subst, arith, length-append, append-nil}
+use Rattle.std.proofs.lemmas.Bool.{ltb-true}
 use Rattle.list.specs.Entries.{added}
 use Rattle.script.specs.declared.fault.Fault.{Fault}
 use Rattle.script.specs.declared.token.Tok.{Tok}
@@ -51,8 +51,8 @@ module _ {s t : List ℕ} {ts : List Tok} {n i : ℕ} (so : Sofar s t ts n i) wh
     walked : tokens s ≡ after (ts ++ r ∷ []) (rest s to)
     walked = left ∙ ap (after ts) reads.0 ∙ after_after ts (r ∷ []) (rest s to)
 
-    pub sofar_full : (f : Fault) → ltb (length ts) n ≡ false → f ≡ fault 4 x.1 → Full n s f
-    sofar_full f h e = (ts, r, rest s to, omega (arith, ltb-false _ _ h, so.room), walked, e ∙ ap (fault 4) (sym (plain_place x.0 x.1)))
+    pub sofar_full : (f : Fault) → f ≡ fault 4 x.1 → Full s ts f
+    sofar_full f e = (r, rest s to, walked, e ∙ ap (fault 4) (sym (plain_place x.0 x.1)))
 
     pub sofar_more : (t' : List ℕ) (r' : Tok) (us : List Tok) → t' ≡ t → r' ≡ r → ltb (length ts) n ≡ true → us ≡ added ts n r' → Sofar s t' us n to
     sofar_more t' r' us e e' h is =

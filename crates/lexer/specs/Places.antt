@@ -13,7 +13,7 @@ Inside end ts = (k : ℕ) (d : Tok) → k < length ts → (1 ≤ (slice_index_or
 abbrev pub Rising : List Tok → Type 0
 Rising ts = (j k : ℕ) (d : Tok) → j < k → k < length ts → (slice_index_or ts j d).place + (slice_index_or ts j d).len ≤ (slice_index_or ts k d).place
 
--- the text has more than n tokens; the fault says where the first past them is
-abbrev pub Full : ℕ → List ℕ → Fault → Type 0
-Full n text f =
-    (before : List Tok) × (t : Tok) × (more : Result (List Tok) Fault) × (length before ≡ n) × (tokens text ≡ after (before ++ t ∷ []) more) × (f ≡ fault 4 t.place)
+-- the text has a token more than the table has entries, which are the tokens before it; the fault says where it is
+abbrev pub Full : List ℕ → List Tok → Fault → Type 0
+Full text table f =
+    (t : Tok) × (more : Result (List Tok) Fault) × (tokens text ≡ after (table ++ t ∷ []) more) × (f ≡ fault 4 t.place)

@@ -87,7 +87,7 @@ fn record(token: Token<'_>, place: usize) -> Tok
 // is long enough, since each token has a byte. It is lent, since a list given back would be copied once more.
 pub(crate) fn read_tokens(text: &[u8], out: &mut [Tok]) -> Result<usize, Fault>
     ensures table { MatchResult result (λ n. tokens text.now ≡ Ok (take n out.new)) (λ f. length text.now ≤ length out.old → tokens text.now ≡ Err f) }
-    ensures full { IfErr result (λ f. (tokens text.now ≡ Err f) ⊎ Full (length out.old) text.now f) }
+    ensures full { IfErr result (λ f. (tokens text.now ≡ Err f) ⊎ Full text.now out.new f) }
     ensures count { IfOk result (λ n. (n ≤ length text.now) × (n ≤ length out.old)) }
     ensures inside { IfOk result (λ n. Inside (length text.now) (take n out.new)) }
     ensures rising { IfOk result (λ n. Rising (take n out.new)) }

@@ -1,5 +1,5 @@
 // A list of at most N entries that lie in the value itself, in an array. It never allocates. The library's
-// `ArrayVec` is no `Copy`: scripts and places are copied, and their copies must not be able to fail.
+// `ArrayVec` is no `Copy`: a list is copied as a value is, and its copies must not be able to fail.
 ghost use Rattle.std.specs.Prelude.{◌≡◌, ◌≤◌, [], ◌∷◌, ◌++◌, length, take, nat_lt};
 ghost use Rattle.std.specs.Option.{option_to_list};
 ghost use Rattle.list.specs.Entries.{last, added};

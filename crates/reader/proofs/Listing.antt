@@ -1,6 +1,6 @@
 -- Lists cut to a length, and names looked up one by one. Assumes nothing.
-use Rattle.std.proofs.Common.{◌≡◌, ℕ, zero, suc, ◌+◌, ◌<◌, ◌≤◌, Bool, true, false, cond, not, ltb, is_some, unwrap_or, Option, Some, None, List, [], ◌∷◌, ◌++◌, length, get_or, take, drop, sym, refl, ap, ◌∙◌, append_assoc, arith, length-take, length-append}
-use Rattle.std.proofs.lemmas.List.{at_drop_more, at_drop_all, take_all, append-nil, take_at}
+use Rattle.std.proofs.Common.{◌≡◌, ℕ, zero, suc, ◌+◌, ◌<◌, ◌≤◌, Bool, true, false, cond, not, ltb, is_some, unwrap_or, Option, Some, None, List, [], ◌∷◌, ◌++◌, length, get_or, take, drop, set, sym, refl, ap, ◌∙◌, append_assoc, arith, length-take, length-append}
+use Rattle.std.proofs.lemmas.List.{at_drop_more, at_drop_all, take_more_set, take_all, append-nil, take_at}
 use Rattle.std.proofs.lemmas.Bool.{ltb-false, ltb-true}
 use Rattle.std.proofs.lemmas.List.Recursion.{is_position_or_len}
 use Rattle.std.proofs.lemmas.List.Sums.{prefix_len-le-length}
@@ -29,6 +29,17 @@ module _ {A : Type 0} (most : ℕ) (xs : List A) (x : A) (ys : List A) (few : le
 
   pub pushed_few : length ys ≤ most
   pushed_few = omega (arith, ap length pushed, length-take most (xs ++ x ∷ []))
+
+-- the same in an array, of which n entries are in use
+pub pushed_slot : {A : Type 0} (most : ℕ) (xs : List A) (n : ℕ) (x : A) → n < most → length xs ≡ most → take (n + 1) (set xs n x) ≡ take most (take n xs ++ x ∷ [])
+pushed_slot most xs n x h long =
+    let e = take_more_set xs n x (omega arith) in
+    e ∙ sym (take_all most (take n xs ++ x ∷ []) (omega (arith, ap length (sym e), length-take (n + 1) (set xs n x))))
+
+pub pushed_past : {A : Type 0} (most : ℕ) (xs : List A) (n : ℕ) (x : A) → most ≤ n → n ≤ most → length xs ≡ most → take n xs ≡ take most (take n xs ++ x ∷ [])
+pushed_past most xs n x h g long =
+    let l : length (take n xs) ≡ most = omega (arith, length-take n xs) in
+    sym (take_at (take n xs) (x ∷ []) most l)
 
 -- ---- the names of a kind
 

@@ -6,6 +6,7 @@ ghost use Rattle.undo.specs.Log.{Log64, meaning_of, pairs, among, undone, fresh,
 ghost use Rattle.undo.specs.Made.{first_words};
 ghost use Rattle.memory.proofs.Plans.{lawful_of};
 ghost use Rattle.undo.specs.Works.{works};
+ghost use Rattle.undo.specs.Fit.{log_of};
 ghost use Rattle.undo.specs.declared.words.Words.{Words as Log};
 
 use crate::log::Undo;
@@ -156,7 +157,7 @@ impl Memory for Undo {
 
     ghost lawful = { lawful_of undo_plan works };
 
-    ghost stands = { λ m. m.fine };
+    ghost stands = { λ m. log_of m };
 
     fn count(&self) -> u32 {
         self.words.count

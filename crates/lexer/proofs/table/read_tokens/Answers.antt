@@ -1,6 +1,9 @@
-use Rattle.std.proofs.Common.{◌≡◌, ◌<◌, true, false, ltb, length, length-take-le, take, ap, ◌∙◌, inl, inr, arith}
+use Rattle.std.proofs.Common.{◌≡◌, ◌<◌, true, ltb, List, length, length-take-le, take, ap, ◌∙◌, subst, inl, inr, arith}
 use Rattle.std.proofs.lemmas.Result.{err_from_is_err_and}
 use Rattle.list.specs.Entries.{added}
+use Rattle.std.proofs.lemmas.List.{take_all}
+use Rattle.script.specs.declared.token.Tok.{Tok}
+use Rattle.lexer.specs.Places.{Full}
 use Rattle.list.proofs.Fixing.{added_at}
 use Rattle.lexer.proofs.Places.{tokens_inside, tokens_rising}
 use Rattle.lexer.proofs.Sofar.{sofar_end, sofar_stray, sofar_full, sofar_more}
@@ -22,11 +25,8 @@ loop-token-preserved c =
 pub returns-then-n-out-clause-full : goal.returns-then-n-out-clause-full
 returns-then-n-out-clause-full c =
     let out = c.loop-token.out in
-    let n = c.loop-token.n in
-    let same : length out ≡ length c.args.out.now = c.loop-token.auto.out in
-    let long : length (take n out) ≡ n = length-take-le n out (omega (arith, c.loop-token.invariant.0)) in
-    let full : ltb (length (take n out)) (length c.args.out.now) ≡ false = grind arith in
-    inr (sofar_full c.loop-token.invariant.1 _ _ _ c.in-Some.is c.in_ok-token.ensures.read _ full c.at.ensures)
+    let all = take_all c.loop-token.n out (omega (arith, c.if-n-out.true)) in
+    inr (subst (λ (ts : List Tok). Full c.args.text.now ts c.at.result) all (sofar_full c.loop-token.invariant.1 _ _ _ c.in-Some.is c.in_ok-token.ensures.read _ c.at.ensures))
 
 pub returns-in_err-token : goal.returns-in_err-token
 returns-in_err-token c =
