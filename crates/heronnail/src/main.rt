@@ -18,8 +18,8 @@ const USAGE: &str =
        heronnail help         print this text";
 
 // The bytes of the file, as many as the buffer holds. The buffer has one byte more than a script may
-// have, so that a file of any size is refused without being read whole. It is lent, since then no more can be read
-// than it holds: no clause of `take(..).read_to_end(..)` says how much that reads of a file.
+// have, so that a file of any size is refused without being read whole. It is lent, so that no read can pass its end:
+// no clause of `take(..).read_to_end(..)` says how much that reads of a file.
 fn read_start(rt: &HostRuntime, path: &str, buf: &mut [u8]) -> io::Result<usize>
     ensures { IfOk result (λ n. n ≤ length buf.old) }
 {

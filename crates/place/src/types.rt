@@ -26,8 +26,7 @@ impl Default for Frame {
 }
 
 // The row of the next statement or closing brace, and the braces that are open around it, the innermost
-// last. An array and a depth, and no `Fixed`: a place is `Copy`, and a function that passes one by value and uses
-// it again is not checked where a struct with an `impl Model` lies in it.
+// last. An array and a depth, and no `Fixed`, for the reason that the reader's `Script` gives.
 #[derive(Clone, Copy)]
 pub struct Place {
     pub row: usize,

@@ -17,8 +17,8 @@ none (x ∷ xs) h =
     let e : is_break x ≡ false = no (is_break x) (h 0 (omega arith)) in
     let f = none xs (λ k l. h (suc k) (omega arith)) in
     let g : ◌≡◌ {A = ℕ} (cond (is_break x) 1 0) 0 = ap (λ b. cond b 1 0) e in
-    let h : 0 + cond (is_break x) 1 0 + count_by is_break xs ≡ count_by is_break (x ∷ xs) = sum_by-take-drop (λ b. cond (is_break b) 1 0) (x ∷ xs) 1 in
-    omega (arith, f, g, h)
+    let all : 0 + cond (is_break x) 1 0 + count_by is_break xs ≡ count_by is_break (x ∷ xs) = sum_by-take-drop (λ b. cond (is_break b) 1 0) (x ∷ xs) 1 in
+    omega (arith, f, g, all)
 
 -- behind where the last line begins there is no line feed
 pub counted : (xs : List ℕ) (s : ℕ) → s ≡ length xs - length (take_while no_break (reverse xs)) → count_by is_break (take s xs) ≡ count_by is_break xs

@@ -66,4 +66,8 @@ fn layers_have_their_numbers(rt: HostRuntime) {
     assert_eq!(rt; Layer::Text as u8, 0);
     assert_eq!(rt; Layer::Names as u8, 1);
     assert_eq!(rt; Layer::Regions as u8, 2);
+    assert_eq!(rt; Layer::Run as u8, 3);
+    assert_eq!(rt; Layer::Memory as u8, 4);
+    assert_eq!(rt; Layer::Table as u8, 5);
+    assert_eq!(rt; Layer::Host as u8, 6);
 }
